@@ -66,23 +66,25 @@ abbrev pub queued : Settings → Output → List ℕ → Output
 queued x o bs =
     record { queue = o .queue ++ bs; column = columnsAfter x (o .column) bs; stopped = o .stopped }
 
-abbrev pub room : Sizes → Output → List ℕ → Bool
-room z o bs = leb (length (o .queue) + length bs) (z .output)
+-- the bytes fit behind n queued ones
+abbrev pub room : Sizes → ℕ → List ℕ → Bool
+room z n bs = leb (n + length bs) (z .output)
 
 -- bytes go to the end of the queue all together, or not at all
 abbrev pub queuedWhole : Sizes → Settings → Output → List ℕ → Output
-queuedWhole z x o bs = cond (room z o bs) (queued x o bs) o
+queuedWhole z x o bs = cond (room z (length (o .queue)) bs) (queued x o bs) o
 
 -- a run of bytes is written, whatever the room
 abbrev pub written : Settings → Output → List ℕ → Output
 written x o bs = queued x o (processed x (o .column) bs)
 
--- 'A write takes bytes until one's whole expansion does not fit, then stops there; its count is the bytes taken.'
-abbrev pub taken : Sizes → Settings → Output → List ℕ → ℕ
-taken z x o [] = 0
-taken z x o (b ∷ bs) =
-    let e : List ℕ = expand x (o .column) b in
-    cond (room z o e) (suc (taken z x (queued x o e) bs)) 0
+-- 'A write takes bytes until one's whole expansion does not fit, then stops there; its count is the bytes taken.' Here n bytes
+-- are queued, and the column is c.
+abbrev pub taken : Sizes → Settings → ℕ → ℕ → List ℕ → ℕ
+taken z x n c [] = 0
+taken z x n c (b ∷ bs) =
+    let e : List ℕ = expand x c b in
+    cond (room z n e) (suc (taken z x (n + length e) (columnsAfter x c e) bs)) 0
 
 -- 'A write tests 5, then 3.' Hung up; none of one byte or more could be taken.
 abbrev pub writtenOn : Bool → Bool → State → List ℕ → ℕ → State × Reply
@@ -92,7 +94,7 @@ writtenOn false false s bs n = (withOutput s (written (s .settings) (s .output) 
 
 abbrev pub write : Sizes → State → List ℕ → State × Reply
 write z s bs =
-    let n : ℕ = taken z (s .settings) (s .output) bs in
+    let n : ℕ = taken z (s .settings) (length (s .output .queue)) (s .output .column) bs in
     writtenOn (s .hungUp) (ltb 0 (length bs) && eqb n 0) s bs n
 
 -- 'Transmit hands out the oldest queued bytes, none while stopped.'

@@ -80,10 +80,6 @@ pub data Decoded : Type 0 where
 abbrev pub asks : Call → List ℕ → Decoded
 asks c lent = wellFormed (record { call = c; lent = lent })
 
--- d where the test holds
-abbrev pub onlyIf : Bool → Decoded → Decoded
-onlyIf test d = cond test d malformed
-
 -- '0 or 1'
 abbrev pub isFlag : ℕ → Bool
 isFlag b = ltb b 2
@@ -94,14 +90,17 @@ flag b = eqb b 1
 abbrev pub bitOf : ℕ → ℕ → Bool
 bitOf flags i = eqb (flags / 2 ^ i % 2) 1
 
--- '1 settings (4 flag bytes, 15 values)'
+-- '1 settings (4 flag bytes, 15 values)'. There are 15 values.
+abbrev pub settingsOn : Bool → ℕ → List ℕ → Decoded
+settingsOn true flags values = asks (Set (settingsOf (bitOf flags) values)) []
+settingsOn false flags values = malformed
+
 abbrev pub settingsRecord : List ℕ → Decoded
 settingsRecord [] = malformed
 settingsRecord (a ∷ []) = malformed
 settingsRecord (a ∷ b ∷ []) = malformed
 settingsRecord (a ∷ b ∷ c ∷ []) = malformed
-settingsRecord (a ∷ b ∷ c ∷ d ∷ values) =
-    onlyIf (eqb (length values) 15) (asks (Set (settingsOf (bitOf (four a b c d)) values)) [])
+settingsRecord (a ∷ b ∷ c ∷ d ∷ values) = settingsOn (eqb (length values) 15) (four a b c d) values
 
 -- '2 good, 3 parity, 4 framing byte (1)'
 abbrev pub byteRecord : (ℕ → Event) → List ℕ → Decoded
@@ -114,30 +113,37 @@ abbrev pub emptyRecord : Call → List ℕ → Decoded
 emptyRecord c [] = asks c []
 emptyRecord c (b ∷ bs) = malformed
 
--- '8 read (2-byte count to 1,024, then 0 or 1 for non-blocking)'
+-- '8 read (2-byte count to 1,024, then 0 or 1 for non-blocking)'. Count and flag are such.
+abbrev pub readOn : Bool → ℕ → ℕ → Decoded
+readOn true n c = asks (Read (flag c)) (replicate n 0)
+readOn false n c = malformed
+
 abbrev pub readRecord : List ℕ → Decoded
 readRecord [] = malformed
 readRecord (a ∷ []) = malformed
 readRecord (a ∷ b ∷ []) = malformed
-readRecord (a ∷ b ∷ c ∷ []) =
-    onlyIf (leb (two a b) 1024 && isFlag c) (asks (Read (flag c)) (replicate (two a b) 0))
+readRecord (a ∷ b ∷ c ∷ []) = readOn (leb (two a b) 1024 && isFlag c) (two a b) c
 readRecord (a ∷ b ∷ c ∷ d ∷ bs) = malformed
 
 -- '9 write (0 to 512)'
 abbrev pub writeRecord : List ℕ → Decoded
-writeRecord bs = onlyIf (leb (length bs) 512) (asks Write bs)
+writeRecord bs = cond (leb (length bs) 512) (asks Write bs) malformed
 
--- '10 transmit (2-byte count to 2,048)'
+-- '10 transmit (2-byte count to 2,048)'. The count is such.
+abbrev pub transmitOn : Bool → ℕ → Decoded
+transmitOn true n = asks Transmit (replicate n 0)
+transmitOn false n = malformed
+
 abbrev pub transmitRecord : List ℕ → Decoded
 transmitRecord [] = malformed
 transmitRecord (a ∷ []) = malformed
-transmitRecord (a ∷ b ∷ []) = onlyIf (leb (two a b) 2048) (asks Transmit (replicate (two a b) 0))
+transmitRecord (a ∷ b ∷ []) = transmitOn (leb (two a b) 2048) (two a b)
 transmitRecord (a ∷ b ∷ c ∷ bs) = malformed
 
 -- '11 flush (1 input, 2 output, 3 both)'
 abbrev pub flushRecord : List ℕ → Decoded
 flushRecord [] = malformed
-flushRecord (a ∷ []) = onlyIf (ltb 0 a && leb a 3) (asks (Flush a) [])
+flushRecord (a ∷ []) = cond (ltb 0 a && leb a 3) (asks (Flush a) []) malformed
 flushRecord (a ∷ b ∷ bs) = malformed
 
 -- '13 foreground (4-byte group to 2,147,483,647, 0 for none; orphaned 0 or 1)'
@@ -148,7 +154,7 @@ foregroundRecord (a ∷ b ∷ []) = malformed
 foregroundRecord (a ∷ b ∷ c ∷ []) = malformed
 foregroundRecord (a ∷ b ∷ c ∷ d ∷ []) = malformed
 foregroundRecord (a ∷ b ∷ c ∷ d ∷ e ∷ []) =
-    onlyIf (leb (four a b c d) 2147483647 && isFlag e) (asks (Foreground (four a b c d) (flag e)) [])
+    cond (leb (four a b c d) 2147483647 && isFlag e) (asks (Foreground (four a b c d) (flag e)) []) malformed
 foregroundRecord (a ∷ b ∷ c ∷ d ∷ e ∷ f ∷ bs) = malformed
 
 -- Kinds 1 to 13, in their order.
