@@ -74,7 +74,7 @@ columns-within : (x : Settings) (c : ℕ) (bs : List ℕ) → c ≤ 65535 → co
 columns-within x c [] h = h
 columns-within x c (b ∷ bs) h = columns-within x (columnAfter x c b) bs (column-within x c b)
 
-queued-within : (z : Sizes) (x : Settings) (o : Output) (bs : List ℕ) → OutputWithin z o → room z (length (o .queue)) bs ≡ true
+queued-within : (z : Sizes) (x : Settings) (o : Output) (bs : List ℕ) → OutputWithin z o → room (z .output) (length (o .queue)) bs ≡ true
     → OutputWithin z (queued x o bs)
 queued-within z x o bs h r =
     record {
@@ -82,10 +82,10 @@ queued-within z x o bs h r =
       column = columns-within x (o .column) bs (h .column);
     }
 
-whole-within : (z : Sizes) (x : Settings) (o : Output) (bs : List ℕ) → OutputWithin z o → OutputWithin z (queuedWhole z x o bs)
-whole-within z x o bs h = go (room z (length (o .queue)) bs) refl
+whole-within : (z : Sizes) (x : Settings) (o : Output) (bs : List ℕ) → OutputWithin z o → OutputWithin z (queuedWhole (z .output) x o bs)
+whole-within z x o bs h = go (room (z .output) (length (o .queue)) bs) refl
   where
-    go : (t : Bool) → room z (length (o .queue)) bs ≡ t → OutputWithin z (cond t (queued x o bs) o)
+    go : (t : Bool) → room (z .output) (length (o .queue)) bs ≡ t → OutputWithin z (cond t (queued x o bs) o)
     go true e = queued-within z x o bs h e
     go false e = h
 
@@ -102,24 +102,24 @@ queued-append x o a b =
 
 taken-more : (z : Sizes) (x : Settings) (o : Output) (b : ℕ) (bs : List ℕ) → OutputWithin z o
     → let e : List ℕ = expand x (o .column) b in
-    let n : ℕ = taken z x (length (o .queue) + length e) (columnsAfter x (o .column) e) bs in
+    let n : ℕ = taken (z .output) x (length (o .queue) + length e) (columnsAfter x (o .column) e) bs in
     (OutputWithin z (queued x o e) → OutputWithin z (written x (queued x o e) (take n bs)))
-    → (t : Bool) → room z (length (o .queue)) e ≡ t
+    → (t : Bool) → room (z .output) (length (o .queue)) e ≡ t
     → OutputWithin z (written x o (take (cond t (suc n) 0) (b ∷ bs)))
 taken-more z x o b bs h more true r =
     let e : List ℕ = expand x (o .column) b in
-    let n : ℕ = taken z x (length (o .queue) + length e) (columnsAfter x (o .column) e) bs in
+    let n : ℕ = taken (z .output) x (length (o .queue) + length e) (columnsAfter x (o .column) e) bs in
     rw (queued-append x o e (processed x (columnsAfter x (o .column) e) (take n bs))) (more (queued-within z x o e h r))
 taken-more z x o b bs h more false r = written-none z x o h
 
 taken-within : (z : Sizes) (x : Settings) (o : Output) (bs : List ℕ) → OutputWithin z o
-    → OutputWithin z (written x o (take (taken z x (length (o .queue)) (o .column) bs) bs))
+    → OutputWithin z (written x o (take (taken (z .output) x (length (o .queue)) (o .column) bs) bs))
 taken-within z x o [] h = written-none z x o h
 taken-within z x o (b ∷ bs) h =
     let e : List ℕ = expand x (o .column) b in
     taken-more z x o b bs h
     (λ w. rw (← length-append (o .queue) e) (taken-within z x (queued x o e) bs w))
-    (room z (length (o .queue)) e) refl
+    (room (z .output) (length (o .queue)) e) refl
 
 ---- Editing
 
@@ -467,7 +467,7 @@ module _ (z : Sizes) where
   ---- Every call
 
   write-within : (a b : Bool) (s : State) (bs : List ℕ) → Within z s
-      → Within z (writtenOn a b s bs (taken z (s .settings) (length (s .output .queue)) (s .output .column) bs) .0)
+      → Within z (writtenOn a b s bs (taken (z .output) (s .settings) (length (s .output .queue)) (s .output .column) bs) .0)
   write-within true b s bs h = h
   write-within false true s bs h = h
   write-within false false s bs h =
@@ -493,7 +493,7 @@ module _ (z : Sizes) where
   step-within s (Read nb) lent h =
       read-within (s .hungUp) (clashes (s .waiting) nb (length lent)) (eqb (length lent) 0) s nb (length lent) h
   step-within s Write lent h =
-      write-within (s .hungUp) (ltb 0 (length lent) && eqb (taken z (s .settings) (length (s .output .queue)) (s .output .column) lent) 0) s lent h
+      write-within (s .hungUp) (ltb 0 (length lent) && eqb (taken (z .output) (s .settings) (length (s .output .queue)) (s .output .column) lent) 0) s lent h
   step-within s Transmit lent h =
       record {
         input = h .input;

@@ -56,4 +56,4 @@ editEcho x e b n us = cond (x .echo) (editShows x e b n us) []
 -- 'Echo passes through output processing. If one event's echo does not fit whole, none is queued.'
 abbrev pub shown : Sizes → State → List ℕ → State
 shown z s bs =
-    withOutput s (queuedWhole z (s .settings) (s .output) (processed (s .settings) (s .output .column) bs))
+    withOutput s (queuedWhole (z .output) (s .settings) (s .output) (processed (s .settings) (s .output .column) bs))

@@ -68,7 +68,7 @@ ended s p =
 
 -- 'What does not fit is dropped without echo: IMAXBEL queues byte 7 unprocessed, if there is room; else all input is flushed.'
 abbrev pub overflowOn : Bool → Sizes → State → State
-overflowOn true z s = withOutput s (queuedWhole z (s .settings) (s .output) (7 ∷ []))
+overflowOn true z s = withOutput s (queuedWhole (z .output) (s .settings) (s .output) (7 ∷ []))
 overflowOn false z s = flushInput s
 
 abbrev pub overflow : Sizes → State → State

@@ -66,13 +66,13 @@ abbrev pub queued : Settings → Output → List ℕ → Output
 queued x o bs =
     record { queue = o .queue ++ bs; column = columnsAfter x (o .column) bs; stopped = o .stopped }
 
--- the bytes fit behind n queued ones
-abbrev pub room : Sizes → ℕ → List ℕ → Bool
-room z n bs = leb (n + length bs) (z .output)
+-- the bytes fit behind n queued ones, in a queue of so many bytes
+abbrev pub room : ℕ → ℕ → List ℕ → Bool
+room size n bs = leb (n + length bs) size
 
 -- bytes go to the end of the queue all together, or not at all
-abbrev pub queuedWhole : Sizes → Settings → Output → List ℕ → Output
-queuedWhole z x o bs = cond (room z (length (o .queue)) bs) (queued x o bs) o
+abbrev pub queuedWhole : ℕ → Settings → Output → List ℕ → Output
+queuedWhole size x o bs = cond (room size (length (o .queue)) bs) (queued x o bs) o
 
 -- a run of bytes is written, whatever the room
 abbrev pub written : Settings → Output → List ℕ → Output
@@ -80,11 +80,11 @@ written x o bs = queued x o (processed x (o .column) bs)
 
 -- 'A write takes bytes until one's whole expansion does not fit, then stops there; its count is the bytes taken.' Here n bytes
 -- are queued, and the column is c.
-abbrev pub taken : Sizes → Settings → ℕ → ℕ → List ℕ → ℕ
-taken z x n c [] = 0
-taken z x n c (b ∷ bs) =
+abbrev pub taken : ℕ → Settings → ℕ → ℕ → List ℕ → ℕ
+taken size x n c [] = 0
+taken size x n c (b ∷ bs) =
     let e : List ℕ = expand x c b in
-    cond (room z n e) (suc (taken z x (n + length e) (columnsAfter x c e) bs)) 0
+    cond (room size n e) (suc (taken size x (n + length e) (columnsAfter x c e) bs)) 0
 
 -- 'A write tests 5, then 3.' Hung up; none of one byte or more could be taken.
 abbrev pub writtenOn : Bool → Bool → State → List ℕ → ℕ → State × Reply
@@ -94,7 +94,7 @@ writtenOn false false s bs n = (withOutput s (written (s .settings) (s .output) 
 
 abbrev pub write : Sizes → State → List ℕ → State × Reply
 write z s bs =
-    let n : ℕ = taken z (s .settings) (length (s .output .queue)) (s .output .column) bs in
+    let n : ℕ = taken (z .output) (s .settings) (length (s .output .queue)) (s .output .column) bs in
     writtenOn (s .hungUp) (ltb 0 (length bs) && eqb n 0) s bs n
 
 -- 'Transmit hands out the oldest queued bytes, none while stopped.'
