@@ -75,7 +75,9 @@ fn first_difference(a: &Ran, b: &Ran) -> Option<Difference> {
     }
     let (a_lines, b_lines) = (lines(a), lines(b));
     let same = a_lines.iter().zip(&b_lines).take_while(|(a, b)| a == b);
-    let line = same.count();
+    // Where both end in the same trouble, that is the last line of both.
+    let last = a_lines.len().max(b_lines.len()).saturating_sub(1);
+    let line = same.count().min(last);
     let shown = |lines: &[String]| lines.get(line).cloned().unwrap_or("(nothing)".to_string());
     Some(Difference {
         line,
@@ -218,7 +220,8 @@ mod tests {
     #[test]
     fn trouble_and_missing_lines_are_differences() {
         let found = first_difference(&ran("a\n", Some("hangs")), &ran("a\n", Some("hangs")));
-        assert!(found.is_some());
+        let found = found.map(|found| (found.line, found.a));
+        assert_eq!(found, Some((1, "(hangs)".into())));
         let found = first_difference(&ran("a\n", None), &ran("a\nb\n", None));
         assert!(found.is_some_and(|found| found.a == "(nothing)"));
         let found = first_difference(&ran("a", None), &ran("a\n", None));

@@ -4,6 +4,7 @@ pub mod asm;
 pub mod compare;
 pub mod dump;
 pub mod explain;
+mod known;
 pub mod names;
 pub mod random;
 pub mod record;

@@ -9,8 +9,9 @@
 //! - bytes 255, parity errors, framing errors and breaks under PARMRK, IGNPAR, INPCK and ISTRIP;
 //! - literal next before every sort of byte;
 //! - settings switched in mid-line, ICANON above all, and settings that are refused;
-//! - flow control, output processing in every mix of flags, columns that outlive a change of
-//!   settings, columns about 65,535;
+//! - flow control, and line ends under ECHONL without ECHO;
+//! - output processing in every mix of flags, columns that outlive a change of settings, columns
+//!   about 65,535;
 //! - end-of-file marks read with lengths around those of their lines;
 //! - two flags in any state with a bit of everything, and uniformly random records;
 //! - damaged records of every kind.

@@ -3,6 +3,7 @@
 //! Records are dropped in ever smaller groups, then by two that stand anywhere; what is left is
 //! made simpler: settings go back to defaults, writes get shorter, counts lower, bytes plainer.
 
+use crate::names::SPECIALS;
 use crate::record::{split, Piece, Record, Settings, What};
 use std::collections::HashSet;
 use std::hash::{DefaultHasher, Hash, Hasher};
@@ -204,7 +205,7 @@ fn lower(count: u16) -> impl Iterator<Item = u16> {
     steps.map(move |step| count - step)
 }
 
-/// The defaults, then each single difference gone.
+/// The defaults, then each single difference gone, or lower where it is a number.
 fn simpler_settings(settings: &Settings) -> Vec<Record> {
     let default = Settings::default();
     let mut simpler = Vec::new();
@@ -222,6 +223,13 @@ fn simpler_settings(settings: &Settings) -> Vec<Record> {
         if settings.values[place] != value {
             let mut one = *settings;
             one.values[place] = value;
+            simpler.push(one);
+        }
+        if place >= SPECIALS && settings.values[place] > value {
+            let mut one = *settings;
+            one.values[place] /= 2;
+            simpler.push(one);
+            one.values[place] = settings.values[place] - 1;
             simpler.push(one);
         }
     }
@@ -296,10 +304,10 @@ mod tests {
 
     #[test]
     fn settings_go_back_to_the_defaults() {
-        let short = shrunk("settings +PARMRK -ECHO MIN=3 INTR='x'\n", |trace| {
+        let short = shrunk("settings +PARMRK -ECHO MIN=9 INTR='x'\n", |trace| {
             has(
                 trace,
-                |record| matches!(record, Record::Settings(settings) if settings.values[13] == 3),
+                |record| matches!(record, Record::Settings(settings) if settings.values[13] >= 3),
             )
         });
         assert_eq!(short, "settings MIN=3\n");

@@ -99,25 +99,28 @@ pub fn number(word: &[u8]) -> Option<u64> {
 
 /// A single byte: a number, a quoted character, or a name.
 pub fn byte(word: &[u8]) -> Result<u8, String> {
+    maybe_byte(word)?.ok_or_else(|| no_byte(word, ""))
+}
+
+/// The same, with nothing for a word of another form.
+fn maybe_byte(word: &[u8]) -> Result<Option<u8>, String> {
     if let [b'\'', inner @ .., b'\''] = word {
         return match unescape(inner)?.as_slice() {
-            [byte] => Ok(*byte),
+            [byte] => Ok(Some(*byte)),
             _ => Err(format!(
                 "expected one character in quotes, found {}",
                 shown(word)
             )),
         };
     }
-    if let Some(byte) = named_byte(word) {
-        return Ok(byte);
-    }
-    let small = number(word).and_then(|number| u8::try_from(number).ok());
-    small.ok_or_else(|| {
-        let found = shown(word);
-        format!(
-            "expected a byte (0 to 255, 0x16, 'x', NL, CR or a name such as ERASE), found {found}"
-        )
-    })
+    let small = || u8::try_from(number(word)?).ok();
+    Ok(named_byte(word).or_else(small))
+}
+
+/// The message for a word that is no byte; `text` names a further form.
+fn no_byte(word: &[u8], text: &str) -> String {
+    let found = shown(word);
+    format!("expected a byte (0 to 255, 0x16, 'x', {text}NL, CR or a name such as ERASE), found {found}")
 }
 
 /// An item of a script: text in double quotes or a single byte, perhaps many times (`254*"a"`).
@@ -125,7 +128,7 @@ pub fn item(word: &[u8]) -> Result<Vec<u8>, String> {
     let (times, single) = times(word)?;
     let bytes = match single {
         [b'"', inner @ .., b'"'] => unescape(inner)?,
-        _ => vec![byte(single).map_err(|fault| text_too(&fault))?],
+        _ => vec![maybe_byte(single)?.ok_or_else(|| no_byte(single, "\"text\", "))?],
     };
     match bytes.len().checked_mul(times) {
         Some(length) if length <= ITEM_MAX => Ok(bytes.repeat(times)),
@@ -134,10 +137,6 @@ pub fn item(word: &[u8]) -> Result<Vec<u8>, String> {
             shown(word)
         )),
     }
-}
-
-fn text_too(fault: &str) -> String {
-    fault.replace("'x',", "'x', \"text\",")
 }
 
 /// Splits `N*item` in N and the item; N is 1 where it does not stand.

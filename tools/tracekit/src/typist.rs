@@ -1,7 +1,8 @@
 //! The hand that writes a random trace: it puts records, counts its moves and keeps in mind what
 //! it sent last, so that it can type the special characters in force and poll a waiting read.
 
-use crate::names::{bit, place, OFF, SPECIALS};
+use crate::known::*;
+use crate::names::{OFF, SPECIALS};
 use crate::record::{put_raw, Flush, Record, Settings, READ_MAX, TRANSMIT_MAX, WRITE_MAX};
 use crate::rng::Rng;
 
@@ -98,9 +99,9 @@ impl Typist {
     /// Types what ends a line: NL mostly, else EOF, EOL, EOL2 or CR.
     pub fn end_line(&mut self) {
         let end = match self.rng.below(10) {
-            0 | 1 => self.special(place("EOF")),
-            2 => self.special(place("EOL")),
-            3 => self.special(place("EOL2")),
+            0 | 1 => self.special(EOF),
+            2 => self.special(EOL),
+            3 => self.special(EOL2),
             4 => 13,
             _ => 10,
         };
@@ -216,7 +217,7 @@ impl Typist {
         self.put(Record::Cancel);
         self.put(Record::Flush(Flush::Both));
         if self.rng.chance(1, 2) {
-            self.press(place("START"));
+            self.press(START);
         }
     }
 
@@ -242,13 +243,13 @@ impl Typist {
 
     /// Chooses MIN and TIME, and sometimes a few special characters.
     pub fn choose_values(&mut self, settings: &mut Settings) {
-        settings.values[place("MIN")] = self.rng.pick([0, 1, 1, 2, 3, 4, 5, 255]);
-        settings.values[place("TIME")] = self.rng.pick([0, 0, 1, 1, 2, 3]);
+        settings.values[MIN] = self.rng.pick([0, 1, 1, 2, 3, 4, 5, 255]);
+        settings.values[TIME] = self.rng.pick([0, 0, 1, 1, 2, 3]);
         if self.rng.chance(1, 4) {
-            settings.values[place("EOL")] = self.rng.pick([b';', 0, 254, 27, 141]);
+            settings.values[EOL] = self.rng.pick([b';', 0, 254, 27, 141]);
         }
         if self.rng.chance(1, 6) {
-            settings.values[place("EOL2")] = self.rng.pick(*b".-_");
+            settings.values[EOL2] = self.rng.pick(*b".-_");
         }
         if self.rng.chance(1, 8) {
             let place = self.rng.below(SPECIALS as u64) as usize;
@@ -294,6 +295,6 @@ impl Typist {
 
     /// Whether a hangup is harmless by the settings sent last.
     pub fn is_local(&self) -> bool {
-        self.settings.flags & bit("CLOCAL") != 0
+        self.settings.flags & CLOCAL != 0
     }
 }
