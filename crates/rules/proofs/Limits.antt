@@ -180,6 +180,13 @@ unit-unmarked : (silent : Bool) (b : ℕ) (more : List ℕ) → hasMark (unit si
 unit-unmarked silent b [] = refl
 unit-unmarked silent b (c ∷ cs) = unit-unmarked silent b cs
 
+stored-length : (i : Input) → length (stored i) ≡ used i
+stored-length i = length-append (i .finished) (reverse (i .current)) ∙ ap (_+_ (length (i .finished))) (length-reverse (i .current))
+
+none-unmarked : (l : List Place) → length l ≡ 0 → hasMark (reverse l) ≡ false
+none-unmarked [] e = refl
+none-unmarked (p ∷ ps) e = absurd (omega arith)
+
 kept-within : (z : Sizes) (c : Bool) (i : Input) (u : List Place) → hasMark u ≡ false → InputWithin z c i
     → unitFits c z i (length u) ≡ true → InputWithin z c (keptIn c i u)
 kept-within z true i u m h f =
@@ -192,9 +199,9 @@ kept-within z true i u m h f =
     }
 kept-within z false i u m h f =
     record {
-      places = omega (arith, length-append (i .finished) u, leb-true (used i + length u) (z .input) f);
-      line = h .line;
-      raw = (h .raw .0, mark-append (i .finished) u (h .raw .1) m);
+      places = omega (arith, length-append (stored i) u, stored-length i, leb-true (used i + length u) (z .input) f);
+      line = omega arith;
+      raw = (refl, mark-append (stored i) u (mark-append (i .finished) (reverse (i .current)) (h .raw .1) (none-unmarked (i .current) (h .raw .0))) m);
     }
 
 last-unmarked : (p : Place) (l : List Place) → length l ≡ 0 → p .mark ≡ false → hasMark (reverse (p ∷ l)) ≡ false
@@ -249,9 +256,6 @@ line-length : (l : List Place) → length (oneLine l) ≡ length l
 line-length [] = refl
 line-length (p ∷ []) = refl
 line-length (p ∷ q ∷ ps) = ap suc (line-length (q ∷ ps))
-
-stored-length : (i : Input) → length (stored i) ≡ used i
-stored-length i = length-append (i .finished) (reverse (i .current)) ∙ ap (_+_ (length (i .finished))) (length-reverse (i .current))
 
 ---- Parts of the state
 
@@ -503,9 +507,9 @@ module _ (z : Sizes) where
   step-within s (Flush choice) lent h = flushed-within (eqb choice 1) (eqb choice 2) (eqb choice 3) s h
   step-within s Cancel lent h = record { input = h .input; output = h .output; settings = h .settings }
   step-within s (Foreground g o) lent h = foreground-within (tooLarge g) s g o h
-  step-within s (ReadVerdict p) lent h = judged-within (tooLarge (p .group) || eqb (p .group) 0) s (readVerdict s p) h
-  step-within s (WriteVerdict p) lent h = judged-within (tooLarge (p .group) || eqb (p .group) 0) s (writeVerdict (s .settings .tostop) s p) h
-  step-within s (SettingsVerdict p) lent h = judged-within (tooLarge (p .group) || eqb (p .group) 0) s (settingsVerdict s p) h
+  step-within s (ReadVerdict p) lent h = judged-within (tooLarge (p .group) || eqb (p .group) 0) s (readVerdict (s .foreground) p) h
+  step-within s (WriteVerdict p) lent h = judged-within (tooLarge (p .group) || eqb (p .group) 0) s (writeVerdict (s .settings .tostop) (s .foreground) p) h
+  step-within s (SettingsVerdict p) lent h = judged-within (tooLarge (p .group) || eqb (p .group) 0) s (settingsVerdict (s .foreground) p) h
 
   pub after-within : (s : State) (calls : List Asked) → Within z s → Within z (after z s calls)
   after-within s [] h = h

@@ -6,6 +6,7 @@ use lib.ListN.{length}
 use lib.Dec.{leb, ltb, eqb}
 use Rattle.rules.specs.Types.{Settings, Timer, Waiting, Idle, Untimed, Timed}
 use Rattle.rules.specs.Sizes.{Sizes, Place, Input, State, used, withOutput}
+use Rattle.rules.specs.Settings.{stored}
 use Rattle.rules.specs.Flushing.{betweenBytes, flushInput}
 use Rattle.rules.specs.Output.{queuedWhole}
 use Rattle.rules.specs.Echo.{shown}
@@ -33,10 +34,10 @@ timerStored false x (Untimed n) = Untimed n
 timerStored true x (Timed n t) = restartedOn (eqb (t .left) 0) x n t
 timerStored false x (Timed n t) = Timed n t
 
--- The input with a unit more, its places oldest first. ICANON.
+-- The input with a unit more, its places oldest first. ICANON; without it all that is stored is readable.
 abbrev pub keptIn : Bool → Input → List Place → Input
 keptIn true i u = record { finished = i .finished; current = reverse u ++ i .current; literalNext = i .literalNext }
-keptIn false i u = record { finished = i .finished ++ u; current = i .current; literalNext = i .literalNext }
+keptIn false i u = record { finished = stored i ++ u; current = []; literalNext = i .literalNext }
 
 abbrev pub kept : State → List Place → State
 kept s u =

@@ -49,9 +49,9 @@ step z s Transmit lent = transmit s (length lent)
 step z s (Flush choice) lent = flushed s choice
 step z s Cancel lent = (withWaiting s Idle, says Ok 0)
 step z s (Foreground group orphaned) lent = foreground s group orphaned
-step z s (ReadVerdict p) lent = judged s p (readVerdict s p)
-step z s (WriteVerdict p) lent = judged s p (writeVerdict (s .settings .tostop) s p)
-step z s (SettingsVerdict p) lent = judged s p (settingsVerdict s p)
+step z s (ReadVerdict p) lent = judged s p (readVerdict (s .foreground) p)
+step z s (WriteVerdict p) lent = judged s p (writeVerdict (s .settings .tostop) (s .foreground) p)
+step z s (SettingsVerdict p) lent = judged s p (settingsVerdict (s .foreground) p)
 
 -- A call and the buffer lent to it; what the buffer holds matters to a write alone.
 pub record Asked : Type 0 where

@@ -27,24 +27,24 @@ abbrev pub inForeground : Group → ℕ → Bool
 inForeground Nobody group = false
 inForeground (Number n orphaned) group = eqb n group
 
--- 'Not the controlling terminal, or in the foreground group: allowed.'
-abbrev pub free : State → Process → Bool
-free s p = not (p .controlling) || inForeground (s .foreground) (p .group)
+-- 'Not the controlling terminal, or in the foreground group: allowed.' Here g is the foreground group.
+abbrev pub free : Group → Process → Bool
+free g p = not (p .controlling) || inForeground g (p .group)
 
 abbrev pub deaf : Process → Bool
 deaf p = p .ignored || p .blocked
 
 -- 'A background read: EIO if TTIN is ignored or blocked or the group is orphaned; else TTIN to the group.'
-abbrev pub readVerdict : State → Process → Verdict
-readVerdict s p = cond (free s p) Allowed (cond (deaf p || p .orphaned) Eio Ttin)
+abbrev pub readVerdict : Group → Process → Verdict
+readVerdict g p = cond (free g p) Allowed (cond (deaf p || p .orphaned) Eio Ttin)
 
 -- 'A background write: allowed if TOSTOP is clear or TTOU ignored or blocked; else EIO if orphaned; else TTOU.'
-abbrev pub writeVerdict : Bool → State → Process → Verdict
-writeVerdict tostop s p = cond (free s p || not tostop || deaf p) Allowed (cond (p .orphaned) Eio Ttou)
+abbrev pub writeVerdict : Bool → Group → Process → Verdict
+writeVerdict tostop g p = cond (free g p || not tostop || deaf p) Allowed (cond (p .orphaned) Eio Ttou)
 
 -- 'Changing settings: as a write with TOSTOP set.'
-abbrev pub settingsVerdict : State → Process → Verdict
-settingsVerdict s p = writeVerdict true s p
+abbrev pub settingsVerdict : Group → Process → Verdict
+settingsVerdict g p = writeVerdict true g p
 
 -- refusal 2: a group above 2,147,483,647, 'or a process group of 0 in a verdict'
 abbrev pub judgedOn : Bool → State → Verdict → State × Reply
