@@ -4,4 +4,5 @@ pub mod Examples
 pub mod WrongPorts
 pub mod Traces
 pub mod Classes
+pub mod OutputLaws
 pub mod Limits

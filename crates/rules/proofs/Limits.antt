@@ -18,6 +18,7 @@ use Rattle.rules.specs.Fit.{unitFits, endFits, keptIn, kept, ended, over
 use Rattle.rules.specs.Received.{Meaning, literalNext, signals, stops, starts, drops, edits, ends, marks, stores, step1, step2, step3, step4, step5, step6, step7, step8, step9, plainly, mapped, flushedUnless, stoppedTo, editOn, carry, stripped, good, silently, breakOn, brokenOn, parityOn, hungUp, hangupOn, event, receivedOn, received}
 use Rattle.rules.specs.Reads.{Part, firstLine, partOf, finish, isEmpty, doneOn, ruledOn, clashes, readOn}
 use Rattle.rules.specs.Verdicts.{tooLarge, foregroundOn, judgedOn, readVerdict, writeVerdict, settingsVerdict}
+use Rattle.rules.proofs.OutputLaws.{queued-append}
 use Rattle.rules.specs.Step.{aReadWaits, setOn, step, Asked, stepOf, run, after}
 
 either : {A : Type 0} (P : A → Type 0) (c : Bool) {a b : A} → P a → P b → P (cond c a b)
@@ -91,14 +92,6 @@ whole-within z x o bs h = go (room (z .output) (length (o .queue)) bs) refl
 
 written-none : (z : Sizes) (x : Settings) (o : Output) → OutputWithin z o → OutputWithin z (queued x o [])
 written-none z x o h = record { queue = rw length-append (omega (arith, h .queue)); column = h .column }
-
-columns-append : (x : Settings) (c : ℕ) (a b : List ℕ) → columnsAfter x c (a ++ b) ≡ columnsAfter x (columnsAfter x c a) b
-columns-append x c [] b = refl
-columns-append x c (y ∷ ys) b = columns-append x (columnAfter x c y) ys b
-
-queued-append : (x : Settings) (o : Output) (a b : List ℕ) → queued x o (a ++ b) ≡ queued x (queued x o a) b
-queued-append x o a b =
-    λ i. record { queue = sym (append-assoc (o .queue) a b) i; column = columns-append x (o .column) a b i; stopped = o .stopped }
 
 taken-more : (z : Sizes) (x : Settings) (o : Output) (b : ℕ) (bs : List ℕ) → OutputWithin z o
     → let e : List ℕ = expand x (o .column) b in

@@ -1,0 +1,95 @@
+-- What is shown, by its cases. Assumes nothing.
+use mathlib.Core.Path.{_≡_, refl, sym, ap, _∙_}
+use mathlib.Core.Bool.{Bool, true, false, _&&_, cond, and-false}
+use mathlib.Core.List.{List, [], _∷_, _++_}
+use Prim.Native.Nat.{ℕ, _+_, _<_, _≤_}
+use native.Mathlib.Omega.{arith}
+use lib.ListN.{length}
+use lib.Dec.{eqb, leb}
+use borrow.Author.Tests.{eq-eqb, ne-eqb, le-leb, lt-leb}
+use Rattle.rules.specs.declared.Settings.{Settings}
+use Rattle.rules.specs.Sizes.{Output as Ruled}
+use Rattle.rules.specs.Output.{queued, queuedWhole, processed}
+use Rattle.rules.specs.Echo.{visible, caret, echoOf, storedEcho, rubout}
+use Rattle.rules.proofs.OutputLaws.{append-nil, queued-none}
+use Rattle.output.specs.Contract.{get, Becomes}
+use Rattle.output.specs.declared.Output.{Output}
+use Rattle.output.proofs.Laws.{inRange, becomes, stays}
+use Rattle.echo.specs.Contract.{echoed, Echoes, erasedEcho, killedEcho, bytesOf}
+
+pub visible-caret : (x : Settings) (b : ℕ) → x .echoctl ≡ true → (b ≡ 127 → ⊥) → (b ≡ 9 → ⊥) → (b ≡ 10 → ⊥) → b < 32
+    → 94 ∷ (b + 64) ∷ [] ≡ visible x b
+visible-caret x b t n tab nl lt = rw (t, ne-eqb b 127 n, ne-eqb b 9 tab, ne-eqb b 10 nl, le-leb 0 b (omega arith), le-leb b 31 (omega arith))
+
+pub visible-plain : (x : Settings) (b : ℕ) → x .echoctl ≡ true → (b ≡ 127 → ⊥) → 32 ≤ b → b ∷ [] ≡ visible x b
+visible-plain x b t n le = rw (t, ne-eqb b 127 n, lt-leb b 31 (omega arith), and-false (leb 0 b))
+
+whole-none : (N : ℕ) (x : Settings) (w : Ruled) → queuedWhole N x w [] ≡ w
+whole-none N x w = by (leb (length (w .queue) + 0) N)
+  where
+    by : (t : Bool) → cond t (queued x w []) w ≡ w
+    by true = queued-none x w
+    by false = refl
+
+-- nothing is shown: the output in range
+pub shows-none : (x : Settings) (o p : Output) (l : List ℕ) → p ≡ inRange (length l) o → Echoes x o l [] p l
+shows-none x o p l e =
+    let b : Becomes o l (get o l) (inRange (length l) o) l = stays o l in
+    becomes o p l l (get o l) (echoed x o l []) (sym (whole-none (length l) x (get o l))) (record { output = e ∙ b .output; slice = b .slice })
+
+-- the same bytes by another name
+pub shows-as : (x : Settings) (o r : Output) (l l′ a b : List ℕ) → a ≡ b → Echoes x o l a r l′ → Echoes x o l b r l′
+shows-as x o r l l′ a b e s = becomes o r l l′ (echoed x o l a) (echoed x o l b) (ap (echoed x o l) e) s
+
+---- The cases of each echo
+
+stored-plain : (x : Settings) (b : ℕ) (t : Bool) → x .echo ≡ false → t ≡ (eqb b 10 && x .echonl && x .icanon) → cond t (10 ∷ []) [] ≡ storedEcho x b
+stored-plain x b t e f = rw (e, f)
+
+module _ (x : Settings) (b : ℕ) where
+  pub echo-set : x .echo ≡ true → visible x b ≡ echoOf x b
+  echo-set e = rw e
+
+  pub echo-clear : x .echo ≡ false → [] ≡ echoOf x b
+  echo-clear e = rw e
+
+  pub stored-set : x .echo ≡ true → visible x b ≡ storedEcho x b
+  stored-set e = rw e
+
+  pub stored-newline : (t : Bool) → x .echo ≡ false → t ≡ (eqb b 10 && x .echonl && x .icanon) → t ≡ true → 10 ∷ [] ≡ storedEcho x b
+  stored-newline t e f g = ap (λ (k : Bool). cond k (10 ∷ []) []) (sym g) ∙ stored-plain x b t e f
+
+  pub stored-clear : (t : Bool) → x .echo ≡ false → t ≡ (eqb b 10 && x .echonl && x .icanon) → t ≡ false → [] ≡ storedEcho x b
+  stored-clear t e f g = ap (λ (k : Bool). cond k (10 ∷ []) []) (sym g) ∙ stored-plain x b t e f
+
+  pub erased-rubs : (n : ℕ) → x .echo ≡ true → x .echoe ≡ true → rubout n ≡ erasedEcho x b n
+  erased-rubs n e f = rw (e, f)
+
+  pub erased-own : (n : ℕ) → x .echo ≡ true → x .echoe ≡ false → visible x b ≡ erasedEcho x b n
+  erased-own n e f = rw (e, f)
+
+  pub erased-clear : (n : ℕ) → x .echo ≡ false → [] ≡ erasedEcho x b n
+  erased-clear n e = rw e
+
+  pub killed-rubs : (n : ℕ) → x .echo ≡ true → x .echoke ≡ true → rubout n ≡ killedEcho x b n
+  killed-rubs n e f = rw (e, f)
+
+  pub killed-line : (n : ℕ) → x .echo ≡ true → x .echoke ≡ false → x .echok ≡ true → visible x b ++ (10 ∷ []) ≡ killedEcho x b n
+  killed-line n e f g = rw (e, f, g)
+
+  pub killed-own : (n : ℕ) → x .echo ≡ true → x .echoke ≡ false → x .echok ≡ false → visible x b ≡ killedEcho x b n
+  killed-own n e f g = rw (e, f, g) (sym (append-nil (visible x b)))
+
+  pub killed-clear : (n : ℕ) → x .echo ≡ false → [] ≡ killedEcho x b n
+  killed-clear n e = rw e
+
+---- A newline that is shown with ECHO clear
+
+pub all-three : (x : Settings) (b : ℕ) → b ≡ 10 → x .echonl ≡ true → x .icanon ≡ (eqb b 10 && x .echonl && x .icanon)
+all-three x b e f = rw (eq-eqb b 10 e, f)
+
+pub not-second : (x : Settings) (b : ℕ) → b ≡ 10 → x .echonl ≡ false → false ≡ (eqb b 10 && x .echonl && x .icanon)
+not-second x b e f = rw (eq-eqb b 10 e, f)
+
+pub not-first : (x : Settings) (b : ℕ) → (b ≡ 10 → ⊥) → false ≡ (eqb b 10 && x .echonl && x .icanon)
+not-first x b e = rw (ne-eqb b 10 e)

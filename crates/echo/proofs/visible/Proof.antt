@@ -1,0 +1,33 @@
+-- `echo::visible` meets its contract. Assumes nothing.
+use Rattle.echo.proofs.Laws.{visible-caret, visible-plain}
+use mathlib.Core.Path.{_≡_, refl, sym, ap, _∙_}
+use borrow.Author.Needs.{needs}
+use Rattle.echo.proofs.visible.Statement.{statement}
+use Rattle.echo.proofs.visible.Tie as tie
+use Rattle.echo.proofs.visible.Reads as reads
+use Rattle.echo.proofs.visible.Lts as lts
+
+returns : tie.Need-returns
+returns c = rw (c .before .if1 .taken, c .if2 .taken)
+
+returns-2 : tie.Need-returns-2
+returns-2 c = rw (c .before .before .if1 .taken, c .if3 .taken)
+
+returns-3 : tie.Need-returns-3
+returns-3 c = rw (c .before .before .before .if1 .taken, c .if4 .taken)
+
+add-t5 : tie.Need-add-t5
+add-t5 c = search needs
+
+returns-4 : tie.Need-returns-4
+returns-4 c = visible-caret (c .before .before .before .before .before .args .x) (c .before .before .before .before .before .args .b) (c .before .before .before .before .if1 .taken) (c .before .before .before .if2 .left) (c .before .before .if3 .left) (c .before .if4 .left) (c .if5 .taken)
+
+returns-5 : tie.Need-returns-5
+returns-5 c = visible-plain (c .before .before .before .before .before .args .x) (c .before .before .before .before .before .args .b) (c .before .before .before .before .if1 .taken) (c .before .before .before .if2 .left) (c .if5 .left)
+
+returns-6 : tie.Need-returns-6
+returns-6 c = rw (c .if1 .left)
+
+pub visible-spec : {M : Type 1} → statement M
+visible-spec =
+    tie.close (tie.spec returns returns-2 returns-3 add-t5 returns-4 returns-5 returns-6)

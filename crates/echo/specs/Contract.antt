@@ -1,0 +1,30 @@
+-- What the functions of this crate promise: the output with these bytes echoed, whole or not at all.
+use Prim.Native.Nat.{ℕ}
+use mathlib.Core.Bool.{Bool, cond}
+use mathlib.Core.List.{List, [], _∷_, _++_}
+use lib.ListN.{length}
+use Rattle.rules.specs.declared.Settings.{Settings}
+use Rattle.rules.specs.Sizes.{Output as Ruled}
+use Rattle.rules.specs.Output.{processed, queuedWhole}
+use Rattle.rules.specs.Echo.{visible, rubout}
+use Rattle.output.specs.Contract.{get, Becomes}
+use Rattle.output.specs.declared.Output.{Output}
+use Rattle.echo.specs.declared.Seen.{Seen}
+
+-- a byte as itself, or a caret pair
+abbrev pub bytesOf : Seen → List ℕ
+bytesOf v = cond (v .pair) (94 ∷ v .byte ∷ []) (v .byte ∷ [])
+
+-- 'Echo passes through output processing. If one event's echo does not fit whole, none is queued.'
+abbrev pub echoed : Settings → Output → List ℕ → List ℕ → Ruled
+echoed x o l bs = queuedWhole (length l) x (get o l) (processed x (o .column) bs)
+
+abbrev pub Echoes : Settings → Output → List ℕ → List ℕ → Output → List ℕ → Type 0
+Echoes x o l bs r l′ = Becomes o l (echoed x o l bs) r l′
+
+-- what ERASE and WERASE show by the character b, n units gone; what KILL shows
+abbrev pub erasedEcho : Settings → ℕ → ℕ → List ℕ
+erasedEcho x b n = cond (x .echo) (cond (x .echoe) (rubout n) (visible x b)) []
+
+abbrev pub killedEcho : Settings → ℕ → ℕ → List ℕ
+killedEcho x b n = cond (x .echo) (cond (x .echoke) (rubout n) (visible x b ++ cond (x .echok) (10 ∷ []) [])) []

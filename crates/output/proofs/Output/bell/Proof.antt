@@ -1,0 +1,34 @@
+-- `output::Output::bell` meets its contract. Assumes nothing.
+use Rattle.output.proofs.Laws.{range-len, fits-of, full-of}
+use Rattle.output.specs.Contract.{get, put, Becomes, bytesOf}
+use Rattle.rules.specs.Output.{queued, queuedWhole, processed}
+use mathlib.Core.List.{List, [], _∷_, _++_}
+use lib.ListN.{length, replicate, length-replicate, length-append}
+use native.Mathlib.Omega.{arith}
+use Prim.Native.Nat.{ℕ, _+_, _-_, _<_, _≤_, _%_, min}
+use mathlib.Core.Path.{_≡_, refl, sym, ap, _∙_}
+use borrow.Author.Needs.{needs}
+use Rattle.output.proofs.Output.bell.Statement.{statement}
+use Rattle.output.proofs.Output.bell.Tie as tie
+use Rattle.output.proofs.Output.bell.Reads as reads
+use Rattle.output.proofs.Output.bell.Lts as lts
+use Rattle.output.proofs.Output.fit.Reads as fit-reads
+use Rattle.output.proofs.Output.put_byte.Reads as put-byte-reads
+
+fit-requires : tie.Need-fit-requires
+fit-requires c κs = search needs
+
+put-byte-requires : tie.Need-put-byte-requires
+put-byte-requires c κs = search needs
+
+same-length : tie.Need-same-length
+same-length c = search needs
+
+returns : tie.Need-returns
+returns c = fits-of (c .before .before .before .before .before .before .before .before .before .args .x) (c .before .before .before .before .before .before .before .before .before .args .self) (c .before .before .before .before .before .before .before .fit .result) (c .before .before .before .before .before .before .before .before .before .args .out .now) (c .before .before .before .before .before .before .before .fit .ensures) (c .before .before .put-byte .result) (c .before .before .put-byte .last .1 .1 .0) (7 ∷ []) (omega arith) (c .before .before .put-byte .ensures)
+
+returns-2 : tie.Need-returns-2
+returns-2 c = full-of (c .before .before .before .before .before .args .x) (c .before .before .before .before .before .args .self) (c .before .before .before .fit .result) (c .before .before .before .before .before .args .out .now) (c .before .before .before .fit .ensures) (7 ∷ []) (omega (arith, c .if1 .left))
+
+pub bell-spec : {M : Type 1} → statement M
+bell-spec = tie.close (tie.spec fit-requires put-byte-requires same-length returns returns-2)

@@ -1,0 +1,18 @@
+-- `output::Output::fit` meets its contract. Assumes nothing.
+use Rattle.queue.specs.declared.Queue.{Queue}
+use mathlib.Core.Path.{_≡_, refl, sym, ap, _∙_}
+use borrow.Author.Needs.{needs}
+use Rattle.output.proofs.Output.fit.Statement.{statement}
+use Rattle.output.proofs.Output.fit.Tie as tie
+use Rattle.output.proofs.Output.fit.Reads as reads
+use Rattle.output.proofs.Output.fit.Lts as lts
+use Rattle.queue.proofs.Queue.fit.Reads as fit-reads
+
+fit-requires : tie.Need-fit-requires
+fit-requires c κs = search needs
+
+returns : tie.Need-returns
+returns c = ap (λ (q : Queue). record { queue = q; column = c .before .before .args .self .column; stopped = c .before .before .args .self .stopped }) (c .fit .ensures)
+
+pub fit-spec : {M : Type 1} → statement M
+fit-spec = tie.close (tie.spec fit-requires returns)

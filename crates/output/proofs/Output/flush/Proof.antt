@@ -1,0 +1,18 @@
+-- `output::Output::flush` meets its contract. Assumes nothing.
+use Rattle.queue.specs.declared.Queue.{Queue}
+use mathlib.Core.Path.{_≡_, refl, sym, ap, _∙_}
+use borrow.Author.Needs.{needs}
+use Rattle.output.proofs.Output.flush.Statement.{statement}
+use Rattle.output.proofs.Output.flush.Tie as tie
+use Rattle.output.proofs.Output.flush.Reads as reads
+use Rattle.output.proofs.Output.flush.Lts as lts
+use Rattle.queue.proofs.Queue.drop_all.Reads as drop-all-reads
+
+drop-all-requires : tie.Need-drop-all-requires
+drop-all-requires c κs = search needs
+
+returns : tie.Need-returns
+returns c = ap (λ (q : Queue). record { queue = q; column = c .before .before .args .self .column; stopped = c .before .before .args .self .stopped }) (c .drop-all .ensures)
+
+pub flush-spec : {M : Type 1} → statement M
+flush-spec = tie.close (tie.spec drop-all-requires returns)

@@ -1,0 +1,19 @@
+-- `output::Output::fresh` meets its contract. Assumes nothing.
+use mathlib.Core.Bool.{false}
+use Rattle.queue.specs.declared.Queue.{Queue}
+use mathlib.Core.Path.{_≡_, refl, sym, ap, _∙_}
+use borrow.Author.Needs.{needs}
+use Rattle.output.proofs.Output.fresh.Statement.{statement}
+use Rattle.output.proofs.Output.fresh.Tie as tie
+use Rattle.output.proofs.Output.fresh.Reads as reads
+use Rattle.output.proofs.Output.fresh.Lts as lts
+use Rattle.queue.proofs.Queue.empty.Reads as empty-reads
+
+empty-requires : tie.Need-empty-requires
+empty-requires c κs = search needs
+
+returns : tie.Need-returns
+returns c = ap (λ (q : Queue). record { queue = q; column = 0; stopped = false }) (c .empty .ensures)
+
+pub fresh-spec : {M : Type 1} → statement M
+fresh-spec = tie.close (tie.spec empty-requires returns)

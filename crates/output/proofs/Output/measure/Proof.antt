@@ -1,0 +1,24 @@
+-- `output::Output::measure` meets its contract. Assumes nothing.
+use Rattle.output.proofs.Expansions.{measure-begins}
+use Prim.Native.Nat.{ℕ, _+_, _-_, _<_, _≤_, _%_, min}
+use native.Mathlib.Omega.{arith}
+use Rattle.queue.specs.declared.Queue.{Queue}
+use mathlib.Core.Path.{_≡_, refl, sym, ap, _∙_}
+use borrow.Author.Needs.{needs}
+use Rattle.output.proofs.Output.measure.Statement.{statement}
+use Rattle.output.proofs.Output.measure.Tie as tie
+use Rattle.output.proofs.Output.measure.Reads as reads
+use Rattle.output.proofs.Output.measure.Lts as lts
+use Rattle.queue.proofs.Queue.fit.Reads as fit-reads
+
+fit-requires : tie.Need-fit-requires
+fit-requires c κs = search needs
+
+sub-t5 : tie.Need-sub-t5
+sub-t5 c = omega (arith, ap (λ (q : Queue). q .len) (c .before .fit .ensures))
+
+returns : tie.Need-returns
+returns c = measure-begins (c .before .before .before .args .self) (c .before .before .before .args .n) (c .before .fit .result .len) (ap (λ (q : Queue). q .len) (c .before .fit .ensures))
+
+pub measure-spec : {M : Type 1} → statement M
+measure-spec = tie.close (tie.spec fit-requires sub-t5 returns)

@@ -1,0 +1,21 @@
+-- `queue::Queue::drop_all` meets its contract. Assumes nothing.
+use Rattle.queue.specs.declared.Queue.{Queue}
+use lib.ListN.{length}
+use mathlib.Core.Path.{_≡_, refl, sym, ap, _∙_}
+use Prim.Native.Nat.{ℕ, _+_, _-_, _<_, _≤_, _%_, min}
+use native.Mathlib.Omega.{arith}
+use borrow.Author.Needs.{needs}
+use Rattle.queue.proofs.Queue.drop_all.Statement.{statement}
+use Rattle.queue.proofs.Queue.drop_all.Tie as tie
+use Rattle.queue.proofs.Queue.drop_all.Reads as reads
+use Rattle.queue.proofs.Queue.drop_all.Lts as lts
+use Rattle.queue.proofs.home.Reads as home-reads
+
+home-requires : tie.Need-home-requires
+home-requires c κs = search needs
+
+returns : tie.Need-returns
+returns c = ap (λ (h : ℕ). record { head = h; len = 0 }) (c .home .ensures)
+
+pub drop-all-spec : {M : Type 1} → statement M
+drop-all-spec = tie.close (tie.spec home-requires returns)

@@ -1,0 +1,29 @@
+-- `queue::Queue::fit` meets its contract. Assumes nothing.
+use Rattle.queue.specs.declared.Queue.{Queue}
+use lib.ListN.{length}
+use mathlib.Core.Path.{_≡_, refl, sym, ap, _∙_}
+use Prim.Native.Nat.{ℕ, _+_, _-_, _<_, _≤_, _%_, min}
+use native.Mathlib.Omega.{arith}
+use borrow.Author.Needs.{needs}
+use Rattle.queue.proofs.Queue.fit.Statement.{statement}
+use Rattle.queue.proofs.Queue.fit.Tie as tie
+use Rattle.queue.proofs.Queue.fit.Reads as reads
+use Rattle.queue.proofs.Queue.fit.Lts as lts
+use Rattle.queue.proofs.home.Reads as home-reads
+use Rattle.queue.proofs.least.Reads as least-reads
+
+home-requires : tie.Need-home-requires
+home-requires c κs = search needs
+
+least-requires : tie.Need-least-requires
+least-requires c κs = search needs
+
+returns : tie.Need-returns
+returns c =
+    let q = c .before .before .args .self in
+    let n = c .before .before .args .n in
+    ap (λ (h : ℕ). record { head = h; len = c .least .result }) (c .before .home .ensures)
+    ∙ ap (λ (k : ℕ). record { head = q .head % n; len = k }) (c .least .ensures)
+
+pub fit-spec : {M : Type 1} → statement M
+fit-spec = tie.close (tie.spec home-requires least-requires returns)
