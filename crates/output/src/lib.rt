@@ -373,15 +373,7 @@ impl Output {
         o
     }
 
-    // a byte of an echo that is measured already
-    pub fn queue_byte(self, x: Settings, out: &mut [u8], b: u8) -> Output
-        requires { ⌜ self .queue .len + length (expand x (self .column) b) ≤ length (now out) ⌝ }
-        ensures { λ r. ⌜ Becomes self (now (out .entry)) (queued x (get self (now (out .entry))) (expand x (self .column) b)) r (now (out .exit)) ⌝ }
-    {
-        let e = expand(x, self.column, b);
-        self.put(x, out, e)
-    }
-
+    // 'Transmit hands out the oldest queued bytes, none while stopped.'
     pub fn transmit(self, out: &[u8], dst: &mut [u8]) -> Sent
         ensures { λ r. ⌜ Sends self (now (out .entry)) (now (dst .entry)) r (now (dst .exit)) ⌝ }
     {
@@ -405,6 +397,7 @@ impl Output {
         }
     }
 
+    // 'Flushing output empties its queue; column and "stopped" stay.'
     pub fn flush(self, n: usize) -> Output
         ensures { λ r. ⌜ r ≡ record { queue = laid (self .queue .head % n) []; column = self .column; stopped = self .stopped } ⌝ }
     {

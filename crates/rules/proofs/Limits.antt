@@ -18,7 +18,7 @@ use Rattle.rules.specs.Fit.{unitFits, endFits, keptIn, kept, ended, over
 use Rattle.rules.specs.Received.{Meaning, literalNext, signals, stops, starts, drops, edits, ends, marks, stores, step1, step2, step3, step4, step5, step6, step7, step8, step9, plainly, mapped, flushedUnless, stoppedTo, editOn, carry, stripped, good, silently, breakOn, brokenOn, parityOn, hungUp, hangupOn, event, receivedOn, received}
 use Rattle.rules.specs.Reads.{Part, firstLine, partOf, finish, isEmpty, doneOn, ruledOn, clashes, readOn}
 use Rattle.rules.specs.Verdicts.{tooLarge, foregroundOn, judgedOn, readVerdict, writeVerdict, settingsVerdict}
-use Rattle.rules.proofs.OutputLaws.{queued-append}
+use Rattle.rules.proofs.OutputLaws.{taken-fits}
 use Rattle.rules.specs.Step.{aReadWaits, setOn, step, Asked, stepOf, run, after}
 
 either : {A : Type 0} (P : A → Type 0) (c : Bool) {a b : A} → P a → P b → P (cond c a b)
@@ -90,29 +90,13 @@ whole-within z x o bs h = go (room (z .output) (length (o .queue)) bs) refl
     go true e = queued-within z x o bs h e
     go false e = h
 
-written-none : (z : Sizes) (x : Settings) (o : Output) → OutputWithin z o → OutputWithin z (queued x o [])
-written-none z x o h = record { queue = rw length-append (omega (arith, h .queue)); column = h .column }
-
-taken-more : (z : Sizes) (x : Settings) (o : Output) (b : ℕ) (bs : List ℕ) → OutputWithin z o
-    → let e : List ℕ = expand x (o .column) b in
-    let n : ℕ = taken (z .output) x (length (o .queue) + length e) (columnsAfter x (o .column) e) bs in
-    (OutputWithin z (queued x o e) → OutputWithin z (written x (queued x o e) (take n bs)))
-    → (t : Bool) → room (z .output) (length (o .queue)) e ≡ t
-    → OutputWithin z (written x o (take (cond t (suc n) 0) (b ∷ bs)))
-taken-more z x o b bs h more true r =
-    let e : List ℕ = expand x (o .column) b in
-    let n : ℕ = taken (z .output) x (length (o .queue) + length e) (columnsAfter x (o .column) e) bs in
-    rw (queued-append x o e (processed x (columnsAfter x (o .column) e) (take n bs))) (more (queued-within z x o e h r))
-taken-more z x o b bs h more false r = written-none z x o h
-
 taken-within : (z : Sizes) (x : Settings) (o : Output) (bs : List ℕ) → OutputWithin z o
     → OutputWithin z (written x o (take (taken (z .output) x (length (o .queue)) (o .column) bs) bs))
-taken-within z x o [] h = written-none z x o h
-taken-within z x o (b ∷ bs) h =
-    let e : List ℕ = expand x (o .column) b in
-    taken-more z x o b bs h
-    (λ w. rw (← length-append (o .queue) e) (taken-within z x (queued x o e) bs w))
-    (room (z .output) (length (o .queue)) e) refl
+taken-within z x o bs h =
+    record {
+      queue = taken-fits (z .output) x o bs (h .queue);
+      column = columns-within x (o .column) (processed x (o .column) (take (taken (z .output) x (length (o .queue)) (o .column) bs) bs)) (h .column);
+    }
 
 ---- Editing
 

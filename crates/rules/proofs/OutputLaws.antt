@@ -2,13 +2,15 @@
 use Prim.Native.Nat.{ℕ, suc, _+_, _≤_, _<_}
 use native.Mathlib.Omega.{arith}
 use native.Mathlib.Numerals.{add-one}
-use mathlib.Core.Path.{_≡_, refl, sym, ap, _∙_}
+use mathlib.Core.Path.{_≡_, refl, sym, ap, subst, _∙_}
+use mathlib.Core.Bool.{Bool, true, false, cond}
 use mathlib.Core.List.{List, [], _∷_, _++_, append-assoc}
 use lib.ListN.{length, take, drop, getD, replicate, length-append, take-append-drop}
 use lib.Seq.{take-suc}
 use Rattle.rules.specs.Types.{Settings}
 use Rattle.rules.specs.Sizes.{Output}
-use Rattle.rules.specs.Output.{expand, columnAfter, columnsAfter, processed, queued, written}
+use borrow.Author.Tests.{leb-true}
+use Rattle.rules.specs.Output.{expand, columnAfter, columnsAfter, processed, queued, written, taken, room}
 
 pub append-nil : {A : Type 0} (l : List A) → l ++ [] ≡ l
 append-nil [] = refl
@@ -57,3 +59,27 @@ written-next x o j bs lt =
     ap (written x o) one
     ∙ ap (queued x o) (processed-snoc x (o .column) (take j bs) (getD bs j 0))
     ∙ queued-append x o (processed x (o .column) (take j bs)) (expand x (written x o (take j bs) .column) (getD bs j 0))
+
+---- What a write takes fits
+
+written-more : (N : ℕ) (x : Settings) (o : Output) (b : ℕ) (bs : List ℕ)
+    → let e : List ℕ = expand x (o .column) b in
+    let n : ℕ = taken N x (length (o .queue) + length e) (columnsAfter x (o .column) e) bs in
+    length (o .queue) ≤ N → (length (queued x o e .queue) ≤ N → length (written x (queued x o e) (take n bs) .queue) ≤ N)
+    → (t : Bool) → room N (length (o .queue)) e ≡ t
+    → length (written x o (take (cond t (suc n) 0) (b ∷ bs)) .queue) ≤ N
+written-more N x o b bs le more true r =
+    let e : List ℕ = expand x (o .column) b in
+    let n : ℕ = taken N x (length (o .queue) + length e) (columnsAfter x (o .column) e) bs in
+    subst (λ (w : Output). length (w .queue) ≤ N) (sym (queued-append x o e (processed x (columnsAfter x (o .column) e) (take n bs))))
+    (more (rw length-append (leb-true (length (o .queue) + length e) N r)))
+written-more N x o b bs le more false r = rw append-nil le
+
+pub taken-fits : (N : ℕ) (x : Settings) (o : Output) (bs : List ℕ) → length (o .queue) ≤ N
+    → length (written x o (take (taken N x (length (o .queue)) (o .column) bs) bs) .queue) ≤ N
+taken-fits N x o [] le = rw append-nil le
+taken-fits N x o (b ∷ bs) le =
+    let e : List ℕ = expand x (o .column) b in
+    written-more N x o b bs le
+    (λ w. rw (← length-append (o .queue) e) (taken-fits N x (queued x o e) bs w))
+    (room N (length (o .queue)) e) refl

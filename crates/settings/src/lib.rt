@@ -13,8 +13,8 @@ pub const DEFAULTS: [u8; 15] = [4, 255, 255, 127, 23, 21, 18, 3, 28, 26, 17, 19,
 // BRKINT ICRNL IXON IMAXBEL OPOST ONLCR ECHO ECHOE ECHOKE ECHOCTL ISIG ICANON IEXTEN.
 pub const DEFAULT_FLAGS: u32 = 783301378;
 
-// The value at place i, 0 beyond the end.
-fn value(values: &[u8], i: usize) -> u8
+// The byte at place i of what a record holds, 0 beyond the end.
+pub fn value(values: &[u8], i: usize) -> u8
     ensures { λ r. ⌜ r ≡ getD (now (values .entry)) i 0 ⌝ }
 {
     if i < values.len() {

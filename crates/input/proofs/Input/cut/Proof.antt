@@ -1,0 +1,17 @@
+-- `input::Input::cut` meets its contract. Assumes nothing.
+use Rattle.input.proofs.Laws.{cut-of}
+use borrow.Author.Needs.{needs}
+use Rattle.input.proofs.Input.cut.Statement.{statement}
+use Rattle.input.proofs.Input.cut.Tie as tie
+
+less-requires : tie.Need-less-requires
+less-requires c κs = search needs
+
+drop-newest-requires : tie.Need-drop-newest-requires
+drop-newest-requires c κs = search needs
+
+returns : tie.Need-returns
+returns c = cut-of (c .before .before .before .args .self) (c .drop-newest .result) (c .before .before .before .args .n) (c .before .before .before .args .at) (c .before .less .result) (c .before .before .before .pre) (c .before .less .ensures) (c .drop-newest .ensures)
+
+pub cut-spec : {M : Type 1} → statement M
+cut-spec = tie.close (tie.spec less-requires drop-newest-requires returns)

@@ -1,0 +1,40 @@
+-- `port::Port::fresh` meets its contract. Assumes nothing.
+use Rattle.rules.specs.declared.Waiting.the-variants.{Idle}
+use Rattle.rules.specs.declared.Group.the-variants.{Nobody}
+use Rattle.input.specs.declared.Input.{Input}
+use Rattle.rules.specs.declared.Settings.{Settings}
+use mathlib.Core.Bool.{false}
+use Rattle.output.specs.declared.Output.{Output}
+use mathlib.Core.Path.{_≡_, refl, sym, ap, _∙_}
+use borrow.Author.Needs.{needs}
+use Rattle.port.proofs.Port.fresh.Statement.{statement}
+use Rattle.port.proofs.Port.fresh.Tie as tie
+use Rattle.port.proofs.Port.fresh.Reads as reads
+use Rattle.port.proofs.Port.fresh.Lts as lts
+use Rattle.input.proofs.Input.fresh.Reads as Input-fresh-reads
+use Rattle.output.proofs.Output.fresh.Reads as Output-fresh-reads
+use Rattle.settings.proofs.defaults.Reads as defaults-reads
+
+defaults-requires : tie.Need-defaults-requires
+defaults-requires c κs = search needs
+
+fresh-requires : tie.Need-fresh-requires
+fresh-requires c κs = search needs
+
+fresh-requires-2 : tie.Need-fresh-requires-2
+fresh-requires-2 c κs = search needs
+
+returns : tie.Need-returns
+returns c =
+    λ i. record {
+      settings = c .before .before .defaults .ensures i;
+      line = 254;
+      input = c .before .fresh .ensures i;
+      output = c .fresh2 .ensures i;
+      foreground = Nobody;
+      hung = false;
+      waiting = Idle;
+    }
+
+pub fresh-spec : {M : Type 1} → statement M
+fresh-spec = tie.close (tie.spec defaults-requires fresh-requires fresh-requires-2 returns)

@@ -1,0 +1,183 @@
+// A port of document 01: its state, and the calls on its output. A port is scalars by value; its three queues are lent as
+// slices of any length (input bytes, input marks, output), made by whoever owns the port.
+ghost use mathlib.Core.Path.{_≡_};
+ghost use mathlib.Core.Bool.{_&&_};
+ghost use lib.Dec.{ltb, eqb};
+ghost use Rattle.port.specs.State.{withOutput};
+ghost use Rattle.port.specs.Contract as promise;
+use input::Input;
+use output::Output;
+use rules::Answer;
+use rules::Group;
+use rules::Outcome;
+use rules::Refusal;
+use rules::Settings;
+use rules::Waiting;
+
+pub struct Port {
+    pub settings: Settings,
+    pub line: usize,
+    pub input: Input,
+    pub output: Output,
+    pub foreground: Group,
+    pub hung: bool,
+    pub waiting: Waiting,
+}
+
+pub struct Answered {
+    pub port: Port,
+    pub answer: Answer,
+}
+
+// How many bytes of a buffer were written, and how many were handed out meanwhile.
+pub struct Moved {
+    pub port: Port,
+    pub written: usize,
+    pub given: usize,
+}
+
+impl Port {
+    // 'A line: 254 bytes and its delimiter. Stored input: 1,024 places. Output queue: 2,048 bytes.'
+    pub const LINE: usize = 254;
+
+    pub const INPUT: usize = 1024;
+
+    pub const OUTPUT: usize = 2048;
+
+    // 'A fresh port holds no byte, column 0, no foreground group, default settings.'
+    pub fn fresh() -> Port
+        ensures { λ r. ⌜ r ≡ promise.fresh ⌝ }
+    {
+        let settings = settings::defaults();
+        let input = Input::fresh();
+        let output = Output::fresh();
+        Port {
+            settings: settings,
+            line: Port::LINE,
+            input: input,
+            output: output,
+            foreground: Group::Nobody,
+            hung: false,
+            waiting: Waiting::Idle,
+        }
+    }
+
+    pub fn with_output(self, output: Output) -> Port
+        ensures { λ r. ⌜ r ≡ withOutput self output ⌝ }
+    {
+        let settings = self.settings;
+        let input = self.input;
+        let foreground = self.foreground;
+        let waiting = self.waiting;
+        Port {
+            settings: settings,
+            line: self.line,
+            input: input,
+            output: output,
+            foreground: foreground,
+            hung: self.hung,
+            waiting: waiting,
+        }
+    }
+
+    // 'A write takes bytes until one's whole expansion does not fit, then stops there; its count is the bytes taken.'
+    pub fn write(self, out: &mut [u8], src: &[u8]) -> Answered
+        ensures { λ r. ⌜ promise.result r (now (out .exit)) (now (src .entry)) ≡ promise.written self (now (out .entry)) (now (src .entry)) ⌝ }
+    {
+        if self.hung {
+            return refuses(self, Refusal::HungUp);
+        }
+        let x = self.settings;
+        let o = self.output;
+        let w = o.write(x, out, src);
+        let count = w.count;
+        if nothing_taken(src.len(), count) {
+            return refuses(self, Refusal::Nothing);
+        }
+        let output = w.output;
+        let p = self.with_output(output);
+        says(p, Outcome::Ok, count)
+    }
+
+    // 'Transmit hands out the oldest queued bytes, none while stopped.'
+    pub fn transmit(self, out: &[u8], dst: &mut [u8]) -> Answered
+        ensures { λ r. ⌜ promise.result r (now (out .entry)) (now (dst .exit)) ≡ promise.transmitted self (now (out .entry)) (now (dst .entry)) ⌝ }
+    {
+        let o = self.output;
+        let s = o.transmit(out, dst);
+        let output = s.output;
+        let p = self.with_output(output);
+        says(p, Outcome::Ok, s.count)
+    }
+
+    // 'Flushing output empties its queue; column and "stopped" stay.' The slice of the output has n bytes.
+    pub fn flush_output(self, n: usize) -> Port
+        ensures { λ r. ⌜ r ≡ promise.flushed self n ⌝ }
+    {
+        let o = self.output;
+        let output = o.flush(n);
+        self.with_output(output)
+    }
+
+    // 'Later writes go on from the rest': as much of src as the port takes, then what transmit gives into dst, then the rest.
+    pub fn write_through(self, out: &mut [u8], src: &[u8], dst: &mut [u8]) -> Moved
+        ensures { λ r. ⌜ promise.MovesThrough self (now (out .entry)) (now (src .entry)) (now (dst .entry)) r (now (out .exit)) (now (dst .exit)) ⌝ }
+    {
+        let a = self.write(out, src);
+        let p = a.port;
+        let n = taken(a);
+        let b = p.transmit(out, dst);
+        let q = b.port;
+        let given = taken(b);
+        let c = q.write(out, &src[n..]);
+        let port = c.port;
+        let more = taken(c);
+        Moved {
+            port: port,
+            written: n + more,
+            given: given,
+        }
+    }
+}
+
+// 'a write of one byte or more of which none could be taken'
+fn nothing_taken(len: usize, count: usize) -> bool
+    ensures { λ r. ⌜ r ≡ (ltb 0 len && eqb count 0) ⌝ }
+{
+    if len > 0 {
+        return count == 0;
+    }
+    false
+}
+
+fn taken(a: Answered) -> usize
+    ensures { λ r. ⌜ r ≡ a .answer .count ⌝ }
+{
+    let x = a.answer;
+    x.count
+}
+
+fn says(p: Port, outcome: Outcome, count: usize) -> Answered
+    ensures { λ r. ⌜ r ≡ record { port = p; answer = record { outcome = outcome; count = count } } ⌝ }
+{
+    Answered {
+        port: p,
+        answer: Answer {
+            outcome: outcome,
+            count: count,
+        },
+    }
+}
+
+// 'A refusal returns its number and count 0; port and buffers keep every byte.'
+fn refuses(p: Port, r: Refusal) -> Answered
+    ensures { λ a. ⌜ a ≡ record { port = p; answer = record { outcome = Outcome.Refused r; count = 0 } } ⌝ }
+{
+    Answered {
+        port: p,
+        answer: Answer {
+            outcome: Outcome::Refused(r),
+            count: 0,
+        },
+    }
+}

@@ -1,0 +1,4 @@
+pub mod Bodies
+pub mod Decoding
+pub mod Texts
+pub mod Promises
