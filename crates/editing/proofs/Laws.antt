@@ -1,0 +1,547 @@
+-- Laws of the units of the current line, and one lemma for each way out of the functions. Assumes nothing.
+use mathlib.Core.Path.{_≡_, refl, sym, ap, _∙_}
+use mathlib.Core.Logic.{_⊎_, inl, inr, ⊎-elim}
+use mathlib.Core.Bool.{Bool, true, false, not, _&&_, _||_, cond, false≢true}
+use mathlib.Core.List.{List, [], _∷_, _++_, reverse, append-nil, reverse-append}
+use Prim.Native.Nat.{ℕ, zero, suc, _+_, _-_, _/_, _%_, _<_, _≤_, min}
+use native.Mathlib.Nat.{add-zero, add-suc, le-antisymm}
+use native.Mathlib.Numerals.{add-one}
+use native.Mathlib.Omega.{arith}
+use lib.ListN.{length, getD, take, drop, length-reverse, length-take, length-drop, drop-of-length-le}
+use lib.Seq.{take-suc, drop-append-le, drop-drop}
+use lib.Dec.{eqb}
+use borrow.Author.Tests.{eqb-true, eq-eqb, ne-eqb}
+use Rattle.queue.specs.Queue.{held}
+use Rattle.queue.proofs.Rings.{lt-or-le}
+use Rattle.queue.proofs.Laws.{held-length}
+use Rattle.rules.specs.Sizes.{Place}
+use Rattle.rules.specs.Classes.{isBlank, isLetter, isControl, classOf}
+use Rattle.rules.specs.Editing.{joined, units, placesOf, withoutUnits, single, blank, letter, sameClass, trailing, word, oneClass, alternateWord, Edit, removed, edited}
+use Rattle.rules.specs.Echo.{visible, lineEcho}
+use Rattle.rules.specs.declared.Settings.{Settings}
+use Rattle.rules.specs.declared.Class.{Class}
+use Rattle.rules.specs.declared.Class.the-variants.{Blank, Letter, Control, Other}
+use Rattle.input.specs.Contract.{all, get, lineTo, shortened, Within, Becomes}
+use Rattle.input.specs.declared.Input.{Input}
+use Rattle.input.proofs.Laws.{places-at, all-length, line-whole, cut-becomes, After, cut-after}
+use Rattle.editing.specs.Contract.{blankClass, letterClass, testOf, passesOf, placeAt, placesIn, unitsTo, Line, Starts, Cuts, Removes, showsAt}
+use Rattle.editing.specs.declared.Run.{Run}
+use Rattle.editing.specs.declared.Test.{Test}
+use Rattle.editing.specs.declared.Test.the-variants.{Blanks, NonBlanks, Letters, Others}
+
+---- Units and places
+
+places-joined : (p : Place) (us : List (List Place)) → placesOf (joined p us) ≡ p ∷ placesOf us
+places-joined p [] = refl
+places-joined p (u ∷ us) = ap (λ (l : List Place). l ++ placesOf us) (reverse-append u (p ∷ []))
+
+pub places-units : (l : List Place) → placesOf (units l) ≡ l
+places-units [] = refl
+places-units (p ∷ ps) = go (p .starts) (ap (λ (l : List Place). p ∷ l) (places-units ps))
+  where
+    go : (t : Bool) → p ∷ placesOf (units ps) ≡ p ∷ ps → placesOf (cond t ((p ∷ []) ∷ units ps) (joined p (units ps))) ≡ p ∷ ps
+    go true e = e
+    go false e = places-joined p (units ps) ∙ e
+
+---- One place more
+
+module _ (i : Input) (bs ms : List ℕ) (e : length bs ≡ length ms) (h : Within i (length ms)) where
+  held-long : length (held (i .queue) bs) ≡ i .queue .len
+  held-long = omega (arith, held-length (i .queue) bs, h .len)
+
+  all-long : length (all i bs ms) ≡ i .queue .len
+  all-long = omega (arith, all-length i bs ms e, h .len)
+
+  all-at : (k : ℕ) (d : Place) → k < i .queue .len → getD (all i bs ms) k d ≡ placeAt i bs ms k
+  unfolding all
+  all-at k d lt =
+      places-at (held (i .queue) bs) (held (i .queue) ms) k d
+      (held-length (i .queue) bs ∙ ap (min (i .queue .len)) e ∙ sym (held-length (i .queue) ms))
+      (omega (arith, held-long))
+
+  -- from place `at` on
+  pub places-next : (at k : ℕ) → at ≤ k → k < i .queue .len → placesIn i bs ms at (suc k) ≡ placesIn i bs ms at k ++ (placeAt i bs ms k ∷ [])
+  places-next at k le lt =
+      let a : List Place = all i bs ms in
+      let p : Place = placeAt i bs ms k in
+      ap (drop at) (take-suc a k p (omega (arith, all-long)) ∙ ap (λ (x : Place). take k a ++ (x ∷ [])) (all-at k p lt))
+      ∙ drop-append-le at (take k a) (p ∷ []) (omega (arith, length-take k a, all-long))
+
+  pub line-next : (k : ℕ) → i .ready ≤ k → k < i .queue .len → lineTo i bs ms (suc k) ≡ placeAt i bs ms k ∷ lineTo i bs ms k
+  line-next k le lt =
+      ap reverse (places-next (i .ready) k le lt) ∙ reverse-append (placesIn i bs ms (i .ready) k) (placeAt i bs ms k ∷ [])
+
+  places-none : (k : ℕ) → placesIn i bs ms k k ≡ []
+  places-none k = drop-of-length-le (take k (all i bs ms)) {i = k} (omega (arith, length-take k (all i bs ms)))
+
+  line-none : (k : ℕ) → k ≤ i .ready → lineTo i bs ms k ≡ []
+  line-none k le =
+      ap reverse (drop-of-length-le (take k (all i bs ms)) {i = i .ready} (omega (arith, length-take k (all i bs ms))))
+
+  line-long : (k : ℕ) → k ≤ i .queue .len → length (lineTo i bs ms k) ≡ k - i .ready
+  line-long k le =
+      length-reverse (drop (i .ready) (take k (all i bs ms)))
+      ∙ length-drop (i .ready) (take k (all i bs ms))
+      ∙ ap (λ (n : ℕ). n - i .ready) (length-take k (all i bs ms) ∙ least)
+    where
+      least : min k (length (all i bs ms)) ≡ k
+      least = omega (arith, all-long)
+
+  -- before the line nothing is to be shown, and all of it before `len`
+  pub units-none : (k : ℕ) → k ≤ i .ready → unitsTo i bs ms k ≡ []
+  units-none k le = ap units (line-none k le)
+
+  place-one : (k : ℕ) → k < i .queue .len → placesIn i bs ms k (suc k) ≡ placeAt i bs ms k ∷ []
+  place-one k lt = places-next k k (omega arith) lt ∙ ap (λ (l : List Place). l ++ (placeAt i bs ms k ∷ [])) (places-none k)
+
+  ---- The last unit
+
+  -- a place that begins a unit, or the line
+  unit-first : (k : ℕ) → i .ready ≤ k → k < i .queue .len → (placeAt i bs ms k .starts ≡ true) ⊎ (k ≡ i .ready)
+      → unitsTo i bs ms (suc k) ≡ (placeAt i bs ms k ∷ []) ∷ unitsTo i bs ms k
+  unit-first k le lt begins =
+      let p : Place = placeAt i bs ms k in
+      let us : List (List Place) = unitsTo i bs ms k in
+      ap units (line-next k le lt)
+      ∙ ⊎-elim
+      (λ (w : p .starts ≡ true). ap (λ (t : Bool). cond t ((p ∷ []) ∷ us) (joined p us)) w)
+      (λ (w : k ≡ i .ready).
+      let z : us ≡ [] = units-none k (omega arith) in
+      ap (λ (l : List (List Place)). cond (p .starts) ((p ∷ []) ∷ l) (joined p l)) z
+      ∙ both (p .starts) ((p ∷ []) ∷ [])
+      ∙ ap (λ (l : List (List Place)). (p ∷ []) ∷ l) (sym z))
+      begins
+    where
+      both : (t : Bool) (l : List (List Place)) → cond t l l ≡ l
+      both true l = refl
+      both false l = refl
+
+  -- a further place of it
+  unit-further : (k : ℕ) (u : List Place) (us : List (List Place)) → i .ready ≤ k → k < i .queue .len → placeAt i bs ms k .starts ≡ false
+      → unitsTo i bs ms k ≡ u ∷ us → unitsTo i bs ms (suc k) ≡ (u ++ (placeAt i bs ms k ∷ [])) ∷ us
+  unit-further k u us le lt further eu =
+      let p : Place = placeAt i bs ms k in
+      ap units (line-next k le lt)
+      ∙ ap (λ (t : Bool). cond t ((p ∷ []) ∷ unitsTo i bs ms k) (joined p (unitsTo i bs ms k))) further
+      ∙ ap (joined p) eu
+
+  unit-run : (n at : ℕ) → i .ready ≤ at → suc (at + n) ≤ i .queue .len → (placeAt i bs ms at .starts ≡ true) ⊎ (at ≡ i .ready)
+      → ((k : ℕ) → at < k → k < suc (at + n) → placeAt i bs ms k .starts ≡ false)
+      → unitsTo i bs ms (suc (at + n)) ≡ placesIn i bs ms at (suc (at + n)) ∷ unitsTo i bs ms at
+  unit-run zero at le lt begins none =
+      rw add-zero
+      (unit-first at le (omega arith) begins ∙ ap (λ (l : List Place). l ∷ unitsTo i bs ms at) (sym (place-one at (omega arith))))
+  unit-run (suc n) at le lt begins none =
+      rw add-suc
+      (unit-further (suc (at + n)) (placesIn i bs ms at (suc (at + n))) (unitsTo i bs ms at) (omega arith) (omega arith)
+      (none (suc (at + n)) (omega arith) (omega arith))
+      (unit-run n at le (omega arith) begins (λ k lo hi. none k lo (omega arith)))
+      ∙ ap (λ (l : List Place). l ∷ unitsTo i bs ms at) (sym (places-next at (suc (at + n)) (omega arith) (omega arith))))
+
+---- unit_start
+
+-- the walk back from `end`, at `at`: no place behind it begins a unit
+pub record Seeking (i : Input) (ms : List ℕ) (end at : ℕ) : Type 0 where
+  pub low : i .ready ≤ at
+  pub high : at < end
+  pub none : (k : ℕ) → at < k → k < end → eqb (getD (held (i .queue) ms) k 0 % 2) 1 ≡ false
+
+pub seek-begin : (i : Input) (ms : List ℕ) (end : ℕ) → i .ready < end → Seeking i ms end (end - 1)
+seek-begin i ms end lt = record { low = omega arith; high = omega arith; none = λ k lo hi. absurd (omega arith) }
+
+pub seek-next : (i : Input) (ms : List ℕ) (end at : ℕ) → Seeking i ms end at → i .ready < at
+    → eqb (getD (held (i .queue) ms) at 0 % 2) 1 ≡ false → Seeking i ms end (at - 1)
+seek-next i ms end at s lt further =
+    record {
+      low = omega arith;
+      high = omega (arith, s .high);
+      none = λ k lo hi. ⊎-elim (λ (w : k ≡ at). rw w further) (λ (w : at < k). s .none k w hi) (equal-or-above k at (omega arith));
+    }
+  where
+    equal-or-above : (k at : ℕ) → at ≤ k → (k ≡ at) ⊎ (at < k)
+    equal-or-above k at le = ⊎-elim (λ (w : at < k). inr w) (λ (w : k ≤ at). inl (le-antisymm w le)) (lt-or-le at k)
+
+pub seek-end : (i : Input) (ms : List ℕ) (end at : ℕ) → Line i ms end → Seeking i ms end at
+    → (eqb (getD (held (i .queue) ms) at 0 % 2) 1 ≡ true) ⊎ (at ≡ i .ready) → Starts i ms end at
+seek-end i ms end at l s begins =
+    let n : ℕ = end - suc at in
+    let long : suc (at + n) ≡ end = omega (arith, s .high) in
+    record {
+      low = s .low;
+      high = s .high;
+      unit = λ bs e. rw long at (unit-run i bs ms e (l .within) n at (s .low) (omega (arith, l .high)) begins (λ k lo hi. s .none k lo (omega arith)));
+    }
+
+---- passes_at
+
+blank-class : (b : ℕ) → blankClass (classOf b) ≡ isBlank b
+blank-class b = go (isBlank b) (isLetter b) (isControl b)
+  where
+    go : (t l c : Bool) → blankClass (cond t Blank (cond l Letter (cond c Control Other))) ≡ t
+    go true l c = refl
+    go false true c = refl
+    go false false true = refl
+    go false false false = refl
+
+-- no blank is a letter
+blank-apart : (b : ℕ) → isBlank b ≡ true → isLetter b ≡ false
+blank-apart b e = go (eqb b 32) refl (eqb b 9) refl e
+  where
+    go : (s : Bool) → eqb b 32 ≡ s → (t : Bool) → eqb b 9 ≡ t → (s || t) ≡ true → isLetter b ≡ false
+    go true es t et e = rw (eqb-true b 32 es)
+    go false es true et e = rw (eqb-true b 9 et)
+    go false es false et e = absurd (false≢true e)
+
+letter-class : (b : ℕ) → letterClass (classOf b) ≡ isLetter b
+letter-class b = go (isBlank b) refl (isLetter b) refl (isControl b)
+  where
+    go : (t : Bool) → isBlank b ≡ t → (l : Bool) → isLetter b ≡ l → (c : Bool) → letterClass (cond t Blank (cond l Letter (cond c Control Other))) ≡ l
+    go true et l el c = sym (blank-apart b et) ∙ el
+    go false et true el c = refl
+    go false et false el true = refl
+    go false et false el false = refl
+
+passes-test : (t : Test) (u : List Place) → passesOf t (blank u) (letter u) ≡ testOf t u
+passes-test Blanks u = refl
+passes-test NonBlanks u = refl
+passes-test Letters u = refl
+passes-test Others u = refl
+
+module _ (i : Input) (bs : List ℕ) (start end : ℕ) (t : Test) (r : Bool) (h : Within i (length bs)) (lt : start < end) (le : end ≤ i .queue .len) where
+  passes-by : (l m : Bool) → r ≡ passesOf t l m
+      → ((ms : List ℕ) → length bs ≡ length ms → (l ≡ blank (placesIn i bs ms start end)) × (m ≡ letter (placesIn i bs ms start end)))
+      → (ms : List ℕ) → length bs ≡ length ms → r ≡ testOf t (placesIn i bs ms start end)
+  passes-by l m er is ms e =
+      let u : List Place = placesIn i bs ms start end in
+      er
+      ∙ ap (λ (x : Bool). passesOf t x m) (is ms e .0)
+      ∙ ap (passesOf t (blank u)) (is ms e .1)
+      ∙ passes-test t u
+
+  -- a unit of one byte
+  pub passes-single : (b : ℕ) (c : Class) (l m : Bool) → b ≡ getD (held (i .queue) bs) start 0 → c ≡ classOf b → l ≡ blankClass c → m ≡ letterClass c
+      → start + 1 ≡ end → r ≡ passesOf t l m → (ms : List ℕ) → length bs ≡ length ms → r ≡ testOf t (placesIn i bs ms start end)
+  passes-single b c l m eb ec el em es er =
+      passes-by l m er
+      (λ ms e.
+      let u : placesIn i bs ms start end ≡ placeAt i bs ms start ∷ [] =
+      ap (placesIn i bs ms start) (sym es ∙ add-one start) ∙ place-one i bs ms e (rw (← e) h) start (omega arith) in (
+        el ∙ ap blankClass (ec ∙ ap classOf eb) ∙ blank-class (getD (held (i .queue) bs) start 0) ∙ sym (ap blank u),
+        em ∙ ap letterClass (ec ∙ ap classOf eb) ∙ letter-class (getD (held (i .queue) bs) start 0) ∙ sym (ap letter u),
+      ))
+
+  -- 'a unit of several bytes is a non-blank of the second class'
+  pub passes-several : (start + 1 ≡ end → ⊥) → r ≡ passesOf t false false → (ms : List ℕ) → length bs ≡ length ms → r ≡ testOf t (placesIn i bs ms start end)
+  passes-several ne er =
+      passes-by false false er
+      (λ ms e.
+      let u : List Place = placesIn i bs ms start end in
+      let long : length u ≡ end - start =
+      length-drop start (take end (all i bs ms))
+      ∙ ap (λ (n : ℕ). n - start) (length-take end (all i bs ms) ∙ least ms e) in
+      let two : 1 < length u = omega arith in
+      (sym (no-single isBlank u two), sym (no-single isLetter u two)))
+    where
+      least : (ms : List ℕ) → length bs ≡ length ms → min end (length (all i bs ms)) ≡ end
+      least ms e = omega (arith, all-long i bs ms e (rw (← e) h))
+
+      no-single : (test : ℕ → Bool) (u : List Place) → 1 < length u → single test u ≡ false
+      no-single test [] lt = refl
+      no-single test (p ∷ []) lt = absurd (omega arith)
+      no-single test (p ∷ q ∷ u) lt = refl
+
+---- trailing, and the other walks
+
+-- The walk back from `end`, at `at` after n units, all of which passed.
+pub record Walked (i : Input) (bs ms : List ℕ) (end : ℕ) (test : List Place → Bool) (at n : ℕ) : Type 0 where
+  pub low : i .ready ≤ at
+  pub fewer : n + at ≤ end
+  pub count : trailing test (unitsTo i bs ms end) ≡ n + trailing test (unitsTo i bs ms at)
+  pub rest : unitsTo i bs ms at ≡ drop n (unitsTo i bs ms end)
+
+module _ (i : Input) (bs ms : List ℕ) (end : ℕ) (test : List Place → Bool) (e : length bs ≡ length ms) where
+  pub walk-begin : i .ready ≤ end → Walked i bs ms end test end 0
+  walk-begin le = record { low = le; fewer = omega arith; count = omega arith; rest = refl }
+
+  module _ (at n : ℕ) (w : Walked i bs ms end test at n) where
+    pub walk-next : (start : ℕ) → Starts i ms at start → test (placesIn i bs ms start at) ≡ true → Walked i bs ms end test start (n + 1)
+    walk-next start s passes =
+        let u : List Place = placesIn i bs ms start at in
+        let us : List (List Place) = unitsTo i bs ms start in
+        let step : unitsTo i bs ms at ≡ u ∷ us = s .unit bs e in
+        let more : trailing test (unitsTo i bs ms at) ≡ suc (trailing test us) =
+        ap (trailing test) step ∙ ap (λ (t : Bool). cond t (suc (trailing test us)) 0) passes in
+        record {
+          low = s .low;
+          fewer = omega (arith, w .fewer, s .high);
+          count = omega (arith, w .count);
+          rest =
+              sym
+              (sym (drop-drop 1 n (unitsTo i bs ms end))
+              ∙ ap (drop 1) (sym (w .rest) ∙ step));
+        }
+
+    walk-done : trailing test (unitsTo i bs ms at) ≡ 0 → Cuts i bs ms end (trailing test (unitsTo i bs ms end)) (record { at = at; units = n })
+    walk-done z =
+        let k : n ≡ trailing test (unitsTo i bs ms end) = omega (arith, w .count) in
+        record { low = w .low; fewer = w .fewer; count = k; rest = w .rest ∙ ap (λ (x : ℕ). drop x (unitsTo i bs ms end)) k }
+
+    pub walk-fails : (start : ℕ) → Starts i ms at start → test (placesIn i bs ms start at) ≡ false
+        → Cuts i bs ms end (trailing test (unitsTo i bs ms end)) (record { at = at; units = n })
+    walk-fails start s fails =
+        walk-done
+        (ap (trailing test) (s .unit bs e) ∙ ap (λ (t : Bool). cond t (suc (trailing test (unitsTo i bs ms start))) 0) fails)
+
+    pub walk-end : Within i (length ms) → at ≤ i .ready → Cuts i bs ms end (trailing test (unitsTo i bs ms end)) (record { at = at; units = n })
+    walk-end h le = walk-done (ap (trailing test) (units-none i bs ms e h at le))
+
+pub within-both : (i : Input) (bs ms : List ℕ) → length bs ≡ length ms → Within i (length ms) → Within i (length bs)
+within-both i bs ms e h = rw e h
+
+-- further back in the line
+pub line-back : (i : Input) (ms : List ℕ) (end at : ℕ) → Line i ms end → i .ready ≤ at → at ≤ end → Line i ms at
+line-back i ms end at l lo hi = record { within = l .within; low = lo; high = omega (arith, l .high) }
+
+---- one, one_class, word, alternate_word
+
+pub none-before : (i : Input) (bs ms : List ℕ) (end : ℕ) (f : List (List Place) → ℕ) → length bs ≡ length ms → Line i ms end → end ≤ i .ready
+    → f [] ≡ 0 → Cuts i bs ms end (f (unitsTo i bs ms end)) (record { at = end; units = 0 })
+none-before i bs ms end f e l le z =
+    let k : 0 ≡ f (unitsTo i bs ms end) = sym (ap f (units-none i bs ms e (l .within) end le) ∙ z) in
+    record { low = l .low; fewer = omega arith; count = k; rest = ap (λ (x : ℕ). drop x (unitsTo i bs ms end)) k }
+
+pub one-before : (i : Input) (ms : List ℕ) (end at : ℕ) → Starts i ms end at → (bs : List ℕ) → length bs ≡ length ms
+    → Cuts i bs ms end (min 1 (length (unitsTo i bs ms end))) (record { at = at; units = 1 })
+one-before i ms end at s bs e =
+    let us : List (List Place) = unitsTo i bs ms end in
+    let step : us ≡ placesIn i bs ms at end ∷ unitsTo i bs ms at = s .unit bs e in
+    let k : 1 ≡ min 1 (length us) = sym (ap (λ (l : List (List Place)). min 1 (length l)) step ∙ least (length (unitsTo i bs ms at))) in
+    record {
+      low = s .low;
+      fewer = omega (arith, s .high);
+      count = k;
+      rest = sym (ap (drop 1) step) ∙ ap (λ (x : ℕ). drop x us) k;
+    }
+  where
+    least : (n : ℕ) → min 1 (suc n) ≡ 1
+    least n = omega arith
+
+pub class-before : (i : Input) (bs ms : List ℕ) (end start : ℕ) (t : Test) (l : Bool) (r : Run) → length bs ≡ length ms → Starts i ms end start
+    → l ≡ letter (placesIn i bs ms start end) → testOf t ≡ sameClass l
+    → Cuts i bs ms end (trailing (testOf t) (unitsTo i bs ms end)) r → Cuts i bs ms end (oneClass (unitsTo i bs ms end)) r
+class-before i bs ms end start t l r e s el et c =
+    let step : unitsTo i bs ms end ≡ placesIn i bs ms start end ∷ unitsTo i bs ms start = s .unit bs e in
+    let same : trailing (testOf t) (unitsTo i bs ms end) ≡ oneClass (unitsTo i bs ms end) =
+    ap (trailing (testOf t)) step
+    ∙ ap (λ (f : List Place → Bool). trailing f (placesIn i bs ms start end ∷ unitsTo i bs ms start)) (et ∙ ap sameClass el)
+    ∙ sym (ap oneClass step) in
+    rw (← same) c
+
+-- one run, and then another before it
+pub cut-twice : (i : Input) (bs ms : List ℕ) (end n m : ℕ) (r s : Run) → Cuts i bs ms end n r → Cuts i bs ms (r .at) m s
+    → Cuts i bs ms end (n + m) (record { at = s .at; units = r .units + s .units })
+cut-twice i bs ms end n m r s c d =
+    record {
+      low = d .low;
+      fewer = omega (arith, c .fewer, d .fewer);
+      count = ap (λ (x : ℕ). x + s .units) (c .count) ∙ ap (_+_ n) (d .count);
+      rest = d .rest ∙ ap (drop m) (c .rest) ∙ drop-drop m n (unitsTo i bs ms end);
+    }
+
+module _ (i : Input) (bs ms : List ℕ) (end : ℕ) (r : Run)
+    (c : Cuts i bs ms end (trailing blank (unitsTo i bs ms end)) r) where
+  pub word-of : (s : Run) → Cuts i bs ms (r .at) (trailing (λ u. not (blank u)) (unitsTo i bs ms (r .at))) s
+      → Cuts i bs ms end (word (unitsTo i bs ms end)) (record { at = s .at; units = r .units + s .units })
+  word-of s d =
+      let us : List (List Place) = unitsTo i bs ms end in
+      let n : ℕ = trailing blank us in
+      let same : n + trailing (λ u. not (blank u)) (unitsTo i bs ms (r .at)) ≡ word us =
+      ap (λ (l : List (List Place)). n + trailing (λ u. not (blank u)) l) (c .rest) in
+      rw same at (cut-twice i bs ms end n (trailing (λ u. not (blank u)) (unitsTo i bs ms (r .at))) r s c d)
+
+  pub alternate-of : (s t : Run) → Cuts i bs ms (r .at) (min 1 (length (unitsTo i bs ms (r .at)))) s
+      → Cuts i bs ms (s .at) (oneClass (unitsTo i bs ms (s .at))) t
+      → Cuts i bs ms end (alternateWord (unitsTo i bs ms end)) (record { at = t .at; units = r .units + s .units + t .units })
+  alternate-of s t d f =
+      let us : List (List Place) = unitsTo i bs ms end in
+      let n : ℕ = trailing blank us in
+      let before : List (List Place) = unitsTo i bs ms (r .at) in
+      let after : unitsTo i bs ms (s .at) ≡ drop 1 before = d .rest ∙ drop-least before in
+      let same : n + min 1 (length before) + oneClass (unitsTo i bs ms (s .at)) ≡ alternateWord us =
+      ap (λ (l : List (List Place)). n + min 1 (length before) + oneClass l) after
+      ∙ ap (λ (l : List (List Place)). n + min 1 (length l) + oneClass (drop 1 l)) (c .rest) in
+      rw same at
+      (cut-twice i bs ms end (n + min 1 (length before)) (oneClass (unitsTo i bs ms (s .at))) (record { at = s .at; units = r .units + s .units }) t
+      (cut-twice i bs ms end n (min 1 (length before)) r s c d) f)
+    where
+      drop-least : (us : List (List Place)) → drop (min 1 (length us)) us ≡ drop 1 us
+      drop-least [] = refl
+      drop-least (u ∷ us) = ap (λ (k : ℕ). drop k (u ∷ us)) (least (length us))
+        where
+          least : (n : ℕ) → min 1 (suc n) ≡ 1
+          least n = omega arith
+
+---- last_unit, last_word, whole_line
+
+-- the whole current line, as the rules count its units
+pub removes-of : (i : Input) (bs ms : List ℕ) (f : List (List Place) → ℕ) (r : Run) → length bs ≡ length ms → Within i (length ms)
+    → Cuts i bs ms (i .queue .len) (f (unitsTo i bs ms (i .queue .len))) r → Removes i bs ms (f (units (get i bs ms .current))) r
+removes-of i bs ms f r e h c =
+    let whole : lineTo i bs ms (i .queue .len) ≡ get i bs ms .current = line-whole i bs ms e (rw e h) in
+    let n : ℕ = f (unitsTo i bs ms (i .queue .len)) in
+    let cut : lineTo i bs ms (r .at) ≡ withoutUnits n (lineTo i bs ms (i .queue .len)) =
+    sym (places-units (lineTo i bs ms (r .at))) ∙ ap placesOf (c .rest) in
+    record {
+      low = c .low;
+      high = omega (arith, c .fewer);
+      count = c .count ∙ ap (λ (l : List Place). f (units l)) whole;
+      line = cut ∙ ap (λ (l : List Place). withoutUnits (f (units l)) l) whole;
+    }
+
+-- WERASE, with ALTWERASE set or clear
+module _ (i : Input) (bs ms : List ℕ) (alternate : Bool) (r : Run) (e : length bs ≡ length ms) (h : Within i (length ms)) where
+  pub by-alternate : alternate ≡ true → Cuts i bs ms (i .queue .len) (alternateWord (unitsTo i bs ms (i .queue .len))) r
+      → Removes i bs ms (cond alternate (alternateWord (units (get i bs ms .current))) (word (units (get i bs ms .current)))) r
+  by-alternate t c = rw t (removes-of i bs ms alternateWord r e h c)
+
+  pub by-word : alternate ≡ false → Cuts i bs ms (i .queue .len) (word (unitsTo i bs ms (i .queue .len))) r
+      → Removes i bs ms (cond alternate (alternateWord (units (get i bs ms .current))) (word (units (get i bs ms .current)))) r
+  by-word f c = rw f (removes-of i bs ms word r e h c)
+
+all-trail : (us : List (List Place)) → trailing (λ u. true) us ≡ length us
+all-trail [] = refl
+all-trail (u ∷ us) = ap suc (all-trail us)
+
+pub whole-of : (i : Input) (ms : List ℕ) (at n : ℕ) → Within i (length ms) → at ≤ i .ready
+    → ((bs : List ℕ) → length bs ≡ length ms → Walked i bs ms (i .queue .len) (λ u. true) at n)
+    → (bs : List ℕ) → length bs ≡ length ms → Removes i bs ms (length (units (get i bs ms .current))) (record { at = at; units = n })
+whole-of i ms at n h le w bs e =
+    rw all-trail at
+    (removes-of i bs ms (trailing (λ u. true)) (record { at = at; units = n }) e h (walk-end i bs ms (i .queue .len) (λ u. true) e at n (w bs e) h le))
+
+-- no second run fits
+pub one-run : (i : Input) (bs ms : List ℕ) (n : ℕ) (r s : Run) → length bs ≡ length ms → Within i (length ms)
+    → Removes i bs ms n r → Removes i bs ms n s → r ≡ s
+one-run i bs ms n r s e h a b =
+    let long : length (lineTo i bs ms (r .at)) ≡ length (lineTo i bs ms (s .at)) = ap length (a .line ∙ sym (b .line)) in
+    let at : r .at ≡ s .at =
+    omega (arith, long, line-long i bs ms e h (r .at) (a .high), line-long i bs ms e h (s .at) (b .high), a .low, b .low) in
+    run-is (r .at) (s .at) (r .units) (s .units) at (a .count ∙ sym (b .count))
+  where
+    run-is : (a a′ n n′ : ℕ) → a ≡ a′ → n ≡ n′ → _≡_ {A = Run} (record { at = a; units = n }) (record { at = a′; units = n′ })
+    run-is a a′ n n′ ea en = cc
+
+pub units-whole : (i : Input) (bs ms : List ℕ) → length bs ≡ length ms → Within i (length ms) → unitsTo i bs ms (i .queue .len) ≡ units (get i bs ms .current)
+units-whole i bs ms e h = ap units (line-whole i bs ms e (rw e h))
+
+-- The line cut there is the line edited: for x and the edit of that many units.
+module _ (i : Input) (bs ms : List ℕ) (x : Settings) (edit : Edit) (r : Run) (e : length bs ≡ length ms) (h : Within i (length ms))
+    (a : Removes i bs ms (removed x edit (units (get i bs ms .current))) r) where
+  pub edited-becomes : Becomes i bs ms (edited x edit (get i bs ms)) (shortened (r .at) i) bs ms
+  unfolding get
+  edited-becomes = rw (← a .line) (cut-becomes i bs ms e (r .at) (rw e h) (a .low))
+
+  pub edited-after : After (edited x edit (get i bs ms)) bs ms (shortened (r .at) i) bs ms
+  unfolding get
+  edited-after = rw (← a .line) (cut-after i bs ms e (r .at) (rw e h) (a .low))
+
+---- REPRINT
+
+echo-joined : (x : Settings) (p q : Place) (us : List (List Place)) → lineEcho x (joined p (joined q us)) ≡ lineEcho x (joined q us)
+echo-joined x p q [] = refl
+echo-joined x p q ([] ∷ us) = refl
+echo-joined x p q ((a ∷ u) ∷ us) = refl
+
+-- a further place of the last unit shows nothing more
+echo-further : (x : Settings) (p q : Place) (l : List Place) → lineEcho x (joined p (units (q ∷ l))) ≡ lineEcho x (units (q ∷ l))
+echo-further x p q l = go (q .starts)
+  where
+    go : (t : Bool)
+        → lineEcho x (joined p (cond t ((q ∷ []) ∷ units l) (joined q (units l))))
+        ≡ lineEcho x (cond t ((q ∷ []) ∷ units l) (joined q (units l)))
+    go true = refl
+    go false = echo-joined x p q (units l)
+
+seen : (s : Bool) (v : List ℕ) → cond s [] v ≡ cond (not s && true) v []
+seen true v = refl
+seen false v = refl
+
+unseen : (s : Bool) (v : List ℕ) → cond (not s && false) v [] ≡ []
+unseen true v = refl
+unseen false v = refl
+
+-- the first place of the line, and a place behind another
+echo-begins : (x : Settings) (p : Place) → lineEcho x (units (p ∷ [])) ≡ cond (not (p .silent) && true) (visible x (p .byte)) []
+echo-begins x p = go (p .starts)
+  where
+    go : (t : Bool) → lineEcho x (cond t ((p ∷ []) ∷ []) ((p ∷ []) ∷ [])) ≡ cond (not (p .silent) && true) (visible x (p .byte)) []
+    go true = seen (p .silent) (visible x (p .byte))
+    go false = seen (p .silent) (visible x (p .byte))
+
+echo-behind : (x : Settings) (p q : Place) (l : List Place)
+    → lineEcho x (units (p ∷ q ∷ l)) ≡ lineEcho x (units (q ∷ l)) ++ cond (not (p .silent) && p .starts) (visible x (p .byte)) []
+echo-behind x p q l = go (p .starts)
+  where
+    go : (t : Bool)
+        → lineEcho x (cond t ((p ∷ []) ∷ units (q ∷ l)) (joined p (units (q ∷ l))))
+        ≡ lineEcho x (units (q ∷ l)) ++ cond (not (p .silent) && t) (visible x (p .byte)) []
+    go true = ap (_++_ (lineEcho x (units (q ∷ l)))) (seen (p .silent) (visible x (p .byte)))
+    go false =
+        echo-further x p q l
+        ∙ sym (append-nil (lineEcho x (units (q ∷ l))))
+        ∙ ap (_++_ (lineEcho x (units (q ∷ l)))) (sym (unseen (p .silent) (visible x (p .byte))))
+
+-- what the line before place k shows, and its byte where it begins a unit that had an echo
+pub echo-next : (x : Settings) (i : Input) (bs ms : List ℕ) (k : ℕ) → length bs ≡ length ms → Within i (length ms) → i .ready ≤ k → k < i .queue .len
+    → lineEcho x (unitsTo i bs ms (k + 1))
+    ≡ lineEcho x (unitsTo i bs ms k) ++ cond (showsAt i ms k) (visible x (getD (held (i .queue) bs) k 0)) []
+echo-next x i bs ms k e h le lt =
+    let p : Place = placeAt i bs ms k in
+    let line : List Place = lineTo i bs ms k in
+    let shown : Bool → List ℕ = λ t. cond (not (p .silent) && (t || p .starts)) (visible x (p .byte)) [] in
+    ap (λ (n : ℕ). lineEcho x (unitsTo i bs ms n)) (add-one k)
+    ∙ ap (λ (l : List Place). lineEcho x (units l)) (line-next i bs ms e h k le lt)
+    ∙ ⊎-elim
+    (λ (w : i .ready < k).
+    let j : ℕ = k - 1 in
+    let ek : suc j ≡ k = omega arith in
+    let q : Place = placeAt i bs ms j in
+    let more : line ≡ q ∷ lineTo i bs ms j =
+    ap (lineTo i bs ms) (sym ek) ∙ line-next i bs ms e h j (omega arith) (omega arith) in
+    ap (λ (l : List Place). lineEcho x (units (p ∷ l))) more
+    ∙ echo-behind x p q (lineTo i bs ms j)
+    ∙ ap (λ (l : List Place). lineEcho x (units l) ++ shown false) (sym more)
+    ∙ ap (λ (t : Bool). lineEcho x (units line) ++ shown t) (sym (ne-eqb k (i .ready) (λ same. omega arith))))
+    (λ (w : k ≤ i .ready).
+    let none : line ≡ [] = line-none i bs ms e h k w in
+    ap (λ (l : List Place). lineEcho x (units (p ∷ l))) none
+    ∙ echo-begins x p
+    ∙ ap (λ (l : List Place). lineEcho x (units l) ++ shown true) (sym none)
+    ∙ ap (λ (t : Bool). lineEcho x (units line) ++ shown t) (sym (eq-eqb k (i .ready) (le-antisymm w le))))
+    (lt-or-le (i .ready) k)
+
+---- The tests of the code
+
+-- a mark that was read, and what was asked of it
+pub asked-start : (m v : ℕ) (r t : Bool) → m ≡ v → r ≡ eqb (m % 2) 1 → r ≡ t → eqb (v % 2) 1 ≡ t
+asked-start m v r t em er et = ap (λ (x : ℕ). eqb (x % 2) 1) (sym em) ∙ sym er ∙ et
+
+module _ (i : Input) (ms : List ℕ) (k m : ℕ) (s : Bool) (em : m ≡ getD (held (i .queue) ms) k 0) (es : s ≡ eqb (m / 8 % 2) 1) where
+  asked-silent : eqb (getD (held (i .queue) ms) k 0 / 8 % 2) 1 ≡ s
+  asked-silent = ap (λ (x : ℕ). eqb (x / 8 % 2) 1) (sym em) ∙ sym es
+
+  pub shown-silent : s ≡ true → false ≡ showsAt i ms k
+  shown-silent t = sym (ap (λ (x : Bool). not x && (eqb k (i .ready) || eqb (getD (held (i .queue) ms) k 0 % 2) 1)) (asked-silent ∙ t))
+
+  pub shown-first : s ≡ false → k ≡ i .ready → true ≡ showsAt i ms k
+  shown-first f first =
+      sym
+      (ap (λ (x : Bool). not x && (eqb k (i .ready) || eqb (getD (held (i .queue) ms) k 0 % 2) 1)) (asked-silent ∙ f)
+      ∙ ap (λ (x : Bool). x || eqb (getD (held (i .queue) ms) k 0 % 2) 1) (eq-eqb k (i .ready) first))
+
+  pub shown-behind : (r : Bool) → s ≡ false → (k ≡ i .ready → ⊥) → r ≡ eqb (m % 2) 1 → r ≡ showsAt i ms k
+  shown-behind r f behind er =
+      sym
+      (ap (λ (x : Bool). not x && (eqb k (i .ready) || eqb (getD (held (i .queue) ms) k 0 % 2) 1)) (asked-silent ∙ f)
+      ∙ ap (λ (x : Bool). x || eqb (getD (held (i .queue) ms) k 0 % 2) 1) (ne-eqb k (i .ready) behind)
+      ∙ asked-start m (getD (held (i .queue) ms) k 0) r r em er refl)
