@@ -109,7 +109,7 @@ stored-all i bs ms =
     let a : List Place = all i bs ms in
     ap (_++_ (take (i .ready) a)) (reverse-reverse (drop (i .ready) a)) ∙ take-append-drop (i .ready) a
 
-held-both : (q : Queue) (bs ms : List ℕ) → length bs ≡ length ms → length (held q bs) ≡ length (held q ms)
+pub held-both : (q : Queue) (bs ms : List ℕ) → length bs ≡ length ms → length (held q bs) ≡ length (held q ms)
 held-both q bs ms e = held-length q bs ∙ ap (min (q .len)) e ∙ sym (held-length q ms)
 
 pub all-length : (i : Input) (bs ms : List ℕ) → length bs ≡ length ms → length (all i bs ms) ≡ min (i .queue .len) (length bs)
@@ -218,7 +218,7 @@ take-fewer l m k n e en = go l m k n e en
         rw (← en, e)
         (ap (λ (x : List Place). p ∷ x) (go ps (take k ps) k (length (take k ps)) refl refl))
 
-numbers-are : (h h′ n n′ k k′ : ℕ) (l l′ : Bool) → h ≡ h′ → n ≡ n′ → k ≡ k′ → l ≡ l′
+pub numbers-are : (h h′ n n′ k k′ : ℕ) (l l′ : Bool) → h ≡ h′ → n ≡ n′ → k ≡ k′ → l ≡ l′
     → _≡_ {A = Input} (record { queue = record { head = h; len = n }; ready = k; literal = l })
     (record { queue = record { head = h′; len = n′ }; ready = k′; literal = l′ })
 numbers-are h h′ n n′ k k′ l l′ eh en ek el = cc

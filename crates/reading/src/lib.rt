@@ -1,0 +1,170 @@
+// Document 01, 'Reads' and 'New settings': what a read takes from the stored input, and what a change of ICANON does to it.
+ghost use mathlib.Core.Path.{_≡_};
+ghost use Prim.Native.Nat.{_%_, _/_};
+ghost use lib.ListN.{length};
+ghost use lib.Dec.{eqb};
+ghost use Rattle.input.specs.Contract.{Within};
+ghost use Rattle.reading.specs.Contract.{Sound, ReadsLine, ReadsBytes, TellsLine, Gives, Given, GoesOff, GoesOn, inLine};
+use input::Input;
+use queue::Queue;
+
+// What a read leaves, and how many bytes it gave.
+pub struct Taken {
+    pub input: Input,
+    pub count: usize,
+}
+
+// The bytes of the first line that a read gives, and the places that it takes: a mark is a place and no byte.
+struct Line {
+    count: usize,
+    taken: usize,
+}
+
+// of a mark byte: a line ends with its place
+fn ends(m: u8) -> bool
+    ensures { λ r. ⌜ r ≡ eqb (m / 2 % 2) 1 ⌝ }
+{
+    m / 2 % 2 == 1
+}
+
+// of a mark byte: its place is an end-of-file mark
+fn is_mark(m: u8) -> bool
+    ensures { λ r. ⌜ r ≡ eqb (m / 4 % 2) 1 ⌝ }
+{
+    m / 4 % 2 == 1
+}
+
+// 'at most the requested bytes of the first finished line, its NL, EOL or EOL2 included'
+fn first_line(i: Input, marks: &[u8], n: usize) -> Line
+    requires { ⌜ Within i (length (now marks)) ⌝ }
+    ensures { λ r. ⌜ TellsLine i (now (marks .entry)) n r ⌝ }
+{
+    let q = i.queue;
+    let ready = i.ready;
+    let most = queue::least(n, ready);
+    let mut k = 0;
+    while k < most {
+        let m = q.at(marks, k);
+        if is_mark(m) {
+            return Line {
+                count: k,
+                taken: k + 1, // a mark is taken and gives no byte
+            };
+        }
+        if ends(m) {
+            return Line {
+                count: k + 1,
+                taken: k + 1,
+            };
+        }
+        k += 1;
+    }
+    if k < ready {
+        let m = q.at(marks, k);
+        if is_mark(m) {
+            return Line {
+                count: k,
+                taken: k + 1, // 'Taking the last byte before a mark takes the mark.'
+            };
+        }
+    }
+    Line { count: k, taken: k }
+}
+
+// count bytes into dst; the oldest `taken` places are gone
+fn give(i: Input, bytes: &[u8], dst: &mut [u8], count: usize, taken: usize) -> Taken
+    requires { ⌜ Gives i (now bytes) (now dst) count taken ⌝ }
+    ensures { λ r. ⌜ Given i (now (bytes .entry)) (now (dst .entry)) count taken r (now (dst .exit)) ⌝ }
+{
+    let q = i.queue;
+    q.take(bytes, &mut dst[..count]);
+    let queue = q.drop_oldest(bytes, taken);
+    let input = Input {
+        queue: queue,
+        ready: i.ready - taken,
+        literal: i.literal,
+    };
+    Taken {
+        input: input,
+        count: count,
+    }
+}
+
+// the first line, as much of it as dst has room for
+pub fn read_line(i: Input, bytes: &[u8], marks: &[u8], dst: &mut [u8]) -> Taken
+    requires { ⌜ Sound i (now bytes) (now marks) ⌝ }
+    ensures { λ r. ⌜ ReadsLine i (now (bytes .entry)) (now (marks .entry)) (now (dst .entry)) r (now (dst .exit)) ⌝ }
+{
+    let line = first_line(i, marks, dst.len());
+    give(i, bytes, dst, line.count, line.taken)
+}
+
+// 'A done read takes min(n, stored).'
+pub fn read_bytes(i: Input, bytes: &[u8], dst: &mut [u8]) -> Taken
+    requires { ⌜ Within i (length (now bytes)) ⌝ }
+    ensures { λ r. ⌜ ReadsBytes i (now (bytes .entry)) (now (dst .entry)) r (now (dst .exit)) ⌝ }
+{
+    let k = queue::least(dst.len(), i.ready);
+    give(i, bytes, dst, k, k)
+}
+
+// 'if ICANON goes off, all stored bytes become readable and end-of-file marks vanish'
+pub fn without_marks(i: Input, bytes: &mut [u8], marks: &mut [u8]) -> Input
+    requires { ⌜ Sound i (now bytes) (now marks) ⌝ }
+    ensures { λ r. ⌜ GoesOff i (now (bytes .entry)) (now (marks .entry)) r (now (bytes .exit)) (now (marks .exit)) ⌝ }
+{
+    let q = i.queue;
+    let len = q.len;
+    let mut k = 0;
+    let mut kept = 0;
+    while k < len {
+        let m = q.at(marks, k);
+        if !is_mark(m) {
+            let b = q.at(bytes, k);
+            q.change(bytes, kept, b);
+            q.change(marks, kept, m % 16);
+            kept += 1;
+        }
+        k += 1;
+    }
+    Input {
+        queue: Queue {
+            head: q.head,
+            len: kept,
+        },
+        ready: kept,
+        literal: i.literal,
+    }
+}
+
+// 'If it goes on, the stored bytes, if any, become one finished line with no delimiter.'
+pub fn one_line(i: Input, marks: &mut [u8]) -> Input
+    requires { ⌜ Within i (length (now marks)) ⌝ }
+    ensures { λ r. ⌜ GoesOn i (now (marks .entry)) r (now (marks .exit)) ⌝ }
+{
+    let q = i.queue;
+    let len = q.len;
+    let mut k = 0;
+    while k < len {
+        let m = q.at(marks, k);
+        let b = in_line(m, k + 1 == len);
+        q.change(marks, k, b);
+        k += 1;
+    }
+    Input {
+        queue: q,
+        ready: len,
+        literal: i.literal,
+    }
+}
+
+// the mark byte of a place of one line, its last or another
+fn in_line(m: u8, last: bool) -> u8
+    ensures { λ r. ⌜ r ≡ inLine last m ⌝ }
+{
+    let keep = m % 2 + m / 8 % 2 * 8;
+    if last {
+        return keep + 2;
+    }
+    keep
+}

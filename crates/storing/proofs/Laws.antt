@@ -1,0 +1,230 @@
+-- One lemma for each way out of the functions of this crate. Assumes nothing.
+use mathlib.Core.Path.{_≡_, refl, sym, ap, subst, _∙_}
+use mathlib.Core.Bool.{Bool, true, false, not, _&&_, cond, false≢true}
+use mathlib.Core.List.{List, [], _∷_, _++_}
+use Prim.Native.Nat.{ℕ, _+_, _%_, _<_, _≤_, min}
+use native.Mathlib.Omega.{arith}
+use lib.ListN.{length}
+use lib.Dec.{leb, ltb, eqb}
+use borrow.Author.Tests.{leb-true, ltb-true}
+use Rattle.rules.specs.declared.Settings.{Settings}
+use Rattle.rules.specs.declared.Waiting.{Waiting}
+use Rattle.rules.specs.Sizes.{Sizes, State, Place, Input as RuledInput, used, unit}
+use Rattle.rules.specs.Flushing as flushing
+use Rattle.rules.specs.Fit as fit
+use Rattle.rules.specs.Output as rule
+use Rattle.rules.specs.Received as steps
+use Rattle.input.specs.Contract as input
+use Rattle.input.specs.declared.Input.{Input}
+use Rattle.input.specs.declared.Unit.{Unit}
+use Rattle.input.proofs.Laws as stored
+use Rattle.output.specs.Contract as output
+use Rattle.output.specs.declared.Output.{Output}
+use Rattle.output.proofs.Laws as queued
+use Rattle.echo.specs.Contract.{Echoes}
+use Rattle.echo.proofs.Laws.{shows-none}
+use Rattle.port.specs.declared.Port.{Port}
+use Rattle.storing.specs.Contract.{state, sizesOf, Ranged, Ready, Becomes, Turns, assembled}
+
+and-right : (a b : Bool) → (a && b) ≡ true → b ≡ true
+and-right true b e = e
+and-right false b e = absurd (false≢true e)
+
+-- an output in range that stays as it is
+output-stays : (o : Output) (os : List ℕ) → o ≡ queued.inRange (length os) o → output.Becomes o os (output.get o os) o os
+output-stays o os e =
+    let b : output.Becomes o os (output.get o os) (queued.inRange (length os) o) os = queued.stays o os in
+    record { output = e ∙ b .output; slice = b .slice }
+
+-- an input in range that stays as it is
+input-stays : (i : Input) (bs ms : List ℕ) → length bs ≡ length ms → input.Within i (length bs) → input.Becomes i bs ms (input.get i bs ms) i bs ms
+unfolding input.get
+input-stays i bs ms e w =
+    let c : input.Becomes i bs ms (input.cutAt i bs ms (i .queue .len)) (input.shortened (i .queue .len) i) bs ms =
+    stored.cut-becomes i bs ms e (i .queue .len) w (w .ready) in
+    let k : min (i .queue .len) (i .queue .len) ≡ i .queue .len = omega arith in
+    let r : input.shortened (i .queue .len) i ≡ i =
+    ap (λ (n : ℕ). record { queue = record { head = i .queue .head; len = n }; ready = i .ready; literal = i .literal }) k in
+    let m : input.cutAt i bs ms (i .queue .len) ≡ input.get i bs ms =
+    ap (λ (l : List Place). record { finished = input.get i bs ms .finished; current = l; literalNext = i .literal }) (stored.line-whole i bs ms e w) in
+    subst (λ (y : RuledInput). input.Becomes i bs ms y i bs ms) m
+    (subst (λ (y : Input). input.Becomes i bs ms (input.cutAt i bs ms (i .queue .len)) y bs ms) r c)
+
+-- the port is what was put together
+pub as-assembled : (p q r : Port) (bs ms os bs′ ms′ os′ : List ℕ) (w : State) → r ≡ q → Becomes p bs ms os w q bs′ ms′ os′ → Becomes p bs ms os w r bs′ ms′ os′
+as-assembled p q r bs ms os bs′ ms′ os′ w e b = subst (λ (y : Port). Becomes p bs ms os w y bs′ ms′ os′) (sym e) b
+
+-- the state by another name
+pub as-state : (p r : Port) (bs ms os bs′ ms′ os′ : List ℕ) (w v : State) → w ≡ v → Becomes p bs ms os w r bs′ ms′ os′ → Becomes p bs ms os v r bs′ ms′ os′
+as-state p r bs ms os bs′ ms′ os′ w v e b = subst (λ (y : State). Becomes p bs ms os y r bs′ ms′ os′) e b
+
+module _ (p : Port) (n : ℕ) (os : List ℕ) (g : Ranged p n (length os)) where
+  pub flushed-of : (i : Input) (w : Waiting) (r : Port) → i ≡ input.put input.emptied (p .input .queue .head % n)
+      → w ≡ flushing.timerFlushed (flushing.betweenBytes (p .settings)) (p .waiting) → r ≡ assembled p i (p .output) w
+      → Turns p n os (λ z s. flushing.flushInput s) r os
+  flushed-of i w r ei ew er bs ms eb em =
+      let f : input.Becomes (p .input) bs ms input.emptied (input.put input.emptied (p .input .queue .head % length bs)) bs ms = stored.flush-becomes (p .input) bs ms (eb ∙ sym em) in
+      as-assembled p (assembled p i (p .output) w) r bs ms os bs ms os (flushing.flushInput (state p bs ms os)) er
+      (record {
+        input = record { input = ei ∙ ap (λ (k : ℕ). input.put input.emptied (p .input .queue .head % k)) (sym eb); bytes = f .bytes; marks = f .marks };
+        output = output-stays (p .output) os (g .output);
+        settings = refl;
+        line = refl;
+        foreground = refl;
+        hung = refl;
+        waiting = ew;
+      })
+
+  pub bell-of : (o : Output) (r : Port) (os′ : List ℕ) → p .settings .imaxbel ≡ true
+      → output.Becomes (p .output) os (rule.queuedWhole (length os) (p .settings) (output.get (p .output) os) (7 ∷ [])) o os′
+      → r ≡ assembled p (p .input) o (p .waiting) → Turns p n os fit.overflow r os′
+  bell-of o r os′ t b er bs ms eb em =
+      let z : Sizes = sizesOf p n (length os) in
+      let v : State = state p bs ms os in
+      as-state p r bs ms os bs ms os′ (fit.overflowOn true z v) (fit.overflow z v) (ap (λ (y : Bool). fit.overflowOn y z v) (sym t))
+      (as-assembled p (assembled p (p .input) o (p .waiting)) r bs ms os bs ms os′ (fit.overflowOn true z v) er
+      (record {
+        input = input-stays (p .input) bs ms (eb ∙ sym em) (rw eb (g .input));
+        output = b;
+        settings = refl;
+        line = refl;
+        foreground = refl;
+        hung = refl;
+        waiting = refl;
+      }))
+
+  pub flushes-of : (r : Port) → p .settings .imaxbel ≡ false → Turns p n os (λ z s. flushing.flushInput s) r os → Turns p n os fit.overflow r os
+  flushes-of r t b bs ms eb em =
+      let z : Sizes = sizesOf p n (length os) in
+      let v : State = state p bs ms os in
+      as-state p r bs ms os bs ms os (flushing.flushInput v) (fit.overflow z v) (ap (λ (y : Bool). fit.overflowOn y z v) (sym t)) (b bs ms eb em)
+
+---- A unit k, and what it shows: bytes e, by which the output becomes o
+
+-- the answer of `unit_fits` and of `end_fits` is the rules'
+module _ (p : Port) (bs ms os : List ℕ) (g : Ready p bs ms os) where
+  unit-tells : (k : ℕ) (t : Bool) → input.TellsUnit (p .input) (length bs) (p .line) (p .settings .icanon) k t
+      → t ≡ fit.unitFits (p .settings .icanon) (sizesOf p (length bs) (length os)) (input.get (p .input) bs ms) k
+  unit-tells k t tells = tells (length os) bs ms refl (sym (g .same))
+
+  end-tells : (t : Bool) → input.TellsEnd (p .input) (length bs) t
+      → t ≡ fit.endFits (sizesOf p (length bs) (length os)) (input.get (p .input) bs ms)
+  end-tells t tells = tells (p .line) (length os) bs ms refl (sym (g .same))
+
+  places-used : used (input.get (p .input) bs ms) ≡ p .input .queue .len
+  places-used = stored.used-of (p .input) bs ms (g .same) (g .ranged .input)
+
+  unit-free : (c : Bool) (k : ℕ) → fit.unitFits c (sizesOf p (length bs) (length os)) (input.get (p .input) bs ms) k ≡ true
+      → p .input .queue .len + k ≤ length bs
+  unit-free true k f =
+      omega (
+        arith,
+        ltb-true (used (input.get (p .input) bs ms) + k) (length bs)
+            (and-right (leb (length (input.get (p .input) bs ms .current) + k) (p .line)) (ltb (used (input.get (p .input) bs ms) + k) (length bs)) f),
+        places-used,
+      )
+  unit-free false k f = omega (arith, leb-true (used (input.get (p .input) bs ms) + k) (length bs) f, places-used)
+
+  pub unit-room : (k : ℕ) (t : Bool) → input.TellsUnit (p .input) (length bs) (p .line) (p .settings .icanon) k t → t ≡ true → input.Room (p .input) bs ms k
+  unit-room k t tells e =
+      record { same = g .same; within = g .ranged .input; room = unit-free (p .settings .icanon) k (sym (unit-tells k t tells) ∙ e) }
+
+  pub end-room : (t : Bool) → input.TellsEnd (p .input) (length bs) t → t ≡ true → input.Room (p .input) bs ms 1
+  end-room t tells e =
+      record {
+        same = g .same;
+        within = g .ranged .input;
+        room = omega (arith, ltb-true (used (input.get (p .input) bs ms)) (length bs) (sym (end-tells t tells) ∙ e), places-used);
+      }
+
+  abbrev timed : Waiting
+  timed = fit.timerStored (flushing.betweenBytes (p .settings)) (p .settings) (p .waiting)
+
+  -- stored, with the waiting read's timer
+  pub stored-unit : (k : List Place) (e : List ℕ) (t : Bool) (i : Input) (o : Output) (r : Port) (bs′ ms′ os′ : List ℕ)
+      → input.TellsUnit (p .input) (length bs) (p .line) (p .settings .icanon) (length k) t → t ≡ true
+      → input.Becomes (p .input) bs ms (fit.keptIn (p .settings .icanon) (input.get (p .input) bs ms) k) i bs′ ms′
+      → Echoes (p .settings) (p .output) os e o os′
+      → r ≡ assembled p i o timed
+      → Becomes p bs ms os (fit.storesUnit (sizesOf p (length bs) (length os)) (state p bs ms os) k e) r bs′ ms′ os′
+  unfolding output.get
+  stored-unit k e t i o r bs′ ms′ os′ tells fits b shown er =
+      let z : Sizes = sizesOf p (length bs) (length os) in
+      let v : State = state p bs ms os in
+      as-state p r bs ms os bs′ ms′ os′ (fit.unitOn true z v k e) (fit.storesUnit z v k e)
+      (ap (λ (y : Bool). fit.unitOn y z v k e) (sym fits ∙ unit-tells (length k) t tells))
+      (as-assembled p (assembled p i o timed) r bs ms os bs′ ms′ os′ (fit.unitOn true z v k e) er
+      (record { input = b; output = shown; settings = refl; line = refl; foreground = refl; hung = refl; waiting = refl }))
+
+  pub dropped-unit : (k : List Place) (e : List ℕ) (t : Bool) (r : Port) (os′ : List ℕ)
+      → input.TellsUnit (p .input) (length bs) (p .line) (p .settings .icanon) (length k) t → t ≡ false → Turns p (length bs) os fit.overflow r os′
+      → Becomes p bs ms os (fit.storesUnit (sizesOf p (length bs) (length os)) (state p bs ms os) k e) r bs ms os′
+  dropped-unit k e t r os′ tells full b =
+      let z : Sizes = sizesOf p (length bs) (length os) in
+      let v : State = state p bs ms os in
+      as-state p r bs ms os bs ms os′ (fit.overflow z v) (fit.storesUnit z v k e)
+      (ap (λ (y : Bool). fit.unitOn y z v k e) (sym full ∙ unit-tells (length k) t tells)) (b bs ms refl (sym (g .same)))
+
+  -- a delimiter or a mark
+  pub ended-line : (q : Place) (e : List ℕ) (t : Bool) (i : Input) (o : Output) (r : Port) (bs′ ms′ os′ : List ℕ)
+      → input.TellsEnd (p .input) (length bs) t → t ≡ true
+      → input.Becomes (p .input) bs ms (input.endedIn (input.get (p .input) bs ms) q) i bs′ ms′
+      → Echoes (p .settings) (p .output) os e o os′
+      → r ≡ assembled p i o timed
+      → Becomes p bs ms os (fit.storesEnd (sizesOf p (length bs) (length os)) (state p bs ms os) q e) r bs′ ms′ os′
+  unfolding output.get
+  ended-line q e t i o r bs′ ms′ os′ tells fits b shown er =
+      let z : Sizes = sizesOf p (length bs) (length os) in
+      let v : State = state p bs ms os in
+      as-state p r bs ms os bs′ ms′ os′ (fit.endOn true z v q e) (fit.storesEnd z v q e)
+      (ap (λ (y : Bool). fit.endOn y z v q e) (sym fits ∙ end-tells t tells))
+      (as-assembled p (assembled p i o timed) r bs ms os bs′ ms′ os′ (fit.endOn true z v q e) er
+      (record { input = b; output = shown; settings = refl; line = refl; foreground = refl; hung = refl; waiting = refl }))
+
+  pub dropped-end : (q : Place) (e : List ℕ) (t : Bool) (r : Port) (os′ : List ℕ)
+      → input.TellsEnd (p .input) (length bs) t → t ≡ false → Turns p (length bs) os fit.overflow r os′
+      → Becomes p bs ms os (fit.storesEnd (sizesOf p (length bs) (length os)) (state p bs ms os) q e) r bs ms os′
+  dropped-end q e t r os′ tells full b =
+      let z : Sizes = sizesOf p (length bs) (length os) in
+      let v : State = state p bs ms os in
+      as-state p r bs ms os bs ms os′ (fit.overflow z v) (fit.storesEnd z v q e)
+      (ap (λ (y : Bool). fit.endOn y z v q e) (sym full ∙ end-tells t tells)) (b bs ms refl (sym (g .same)))
+
+  -- nothing is shown
+  pub unseen : Echoes (p .settings) (p .output) os [] (p .output) os
+  unseen = shows-none (p .settings) (p .output) (p .output) os (g .ranged .output)
+
+---- The unit of a byte: 'A 255 with PARMRK set, IGNPAR and ISTRIP clear is stored twice'
+
+abbrev shape : Bool → Bool → Bool → List Place
+shape marked ignored stripped = unit false 255 (cond (marked && not ignored && not stripped) (255 ∷ []) [])
+
+pub unit-255 : (x : Settings) (b : ℕ) (marked ignored stripped : Bool) → b ≡ 255 → x .parmrk ≡ marked → x .ignpar ≡ ignored → x .istrip ≡ stripped
+    → shape marked ignored stripped ≡ unit false b (steps.doubled x b)
+unit-255 x b marked ignored stripped e em ei es =
+    subst (λ (y : ℕ). shape marked ignored stripped ≡ unit false y (steps.doubled x y)) (sym e)
+    (ap (λ (y : Bool). shape y ignored stripped) (sym em) ∙ ap (λ (y : Bool). shape (x .parmrk) y stripped) (sym ei)
+    ∙ ap (λ (y : Bool). shape (x .parmrk) (x .ignpar) y) (sym es))
+
+pub unit-plain : (x : Settings) (b : ℕ) → eqb b 255 ≡ false → unit false b [] ≡ unit false b (steps.doubled x b)
+unit-plain x b e =
+    ap (λ (y : Bool). unit false b (cond (y && x .parmrk && not (x .ignpar) && not (x .istrip)) (255 ∷ []) [])) (sym e)
+
+---- No second port and slices fit a promise
+
+same-port : (r s : Port) → r .settings ≡ s .settings → r .line ≡ s .line → r .input ≡ s .input → r .output ≡ s .output → r .foreground ≡ s .foreground
+    → r .hung ≡ s .hung → r .waiting ≡ s .waiting → r ≡ s
+same-port r s a b c d e f g =
+    let j : _≡_ {A = Port} (record { settings = r .settings; line = r .line; input = r .input; output = r .output; foreground = r .foreground; hung = r .hung; waiting = r .waiting }) (record { settings = s .settings; line = s .line; input = s .input; output = s .output; foreground = s .foreground; hung = s .hung; waiting = s .waiting }) = cc in
+    j
+
+pub one-port : {p : Port} {bs ms os : List ℕ} {w : State} {r s : Port} {bs′ ms′ os′ cs ns qs : List ℕ} → Becomes p bs ms os w r bs′ ms′ os′
+    → Becomes p bs ms os w s cs ns qs → (r ≡ s) × (bs′ ≡ cs) × (ms′ ≡ ns) × (os′ ≡ qs)
+one-port h k =
+    let i = stored.one-input (h .input) (k .input) in (
+      same-port _ _ (h .settings ∙ sym (k .settings)) (h .line ∙ sym (k .line)) (i .0) (h .output .output ∙ sym (k .output .output))
+          (h .foreground ∙ sym (k .foreground)) (h .hung ∙ sym (k .hung)) (h .waiting ∙ sym (k .waiting)),
+      i .1,
+      i .2,
+      h .output .slice ∙ sym (k .output .slice),
+    )
