@@ -7,7 +7,8 @@ use Rattle.rules.specs.declared.Settings.{Settings}
 use Rattle.rules.specs.Sizes.{Output as Ruled}
 use Rattle.rules.specs.Output.{processed, queuedWhole}
 use Rattle.rules.specs.Echo.{visible, rubout}
-use Rattle.output.specs.Contract.{get, Becomes}
+use Rattle.output.specs.Contract.{get, Becomes, Measures}
+use Rattle.output.specs.declared.Measure.{Measure}
 use Rattle.output.specs.declared.Output.{Output}
 use Rattle.echo.specs.declared.Seen.{Seen}
 
@@ -21,6 +22,10 @@ echoed x o l bs = queuedWhole (length l) x (get o l) (processed x (o .column) bs
 
 abbrev pub Echoes : Settings → Output → List ℕ → List ℕ → Output → List ℕ → Type 0
 Echoes x o l bs r l′ = Becomes o l (echoed x o l bs) r l′
+
+-- the bytes e behind a run that is measured
+abbrev pub ExtendsBy : Settings → Measure → List ℕ → Measure → Type 0
+ExtendsBy x m e r = (room c : ℕ) (bs : List ℕ) → Measures x room c bs m → Measures x room c (bs ++ e) r
 
 -- what ERASE and WERASE show by the character b, n units gone; what KILL shows
 abbrev pub erasedEcho : Settings → ℕ → ℕ → List ℕ

@@ -4,7 +4,8 @@ ghost use mathlib.Core.Bool.{_&&_};
 ghost use mathlib.Core.List.{[], _∷_, _++_};
 ghost use lib.Dec.{eqb};
 ghost use Rattle.rules.specs.Echo as echo;
-ghost use Rattle.echo.specs.Contract.{bytesOf, Echoes, erasedEcho, killedEcho};
+ghost use Rattle.echo.specs.Contract.{bytesOf, Echoes, ExtendsBy, erasedEcho, killedEcho};
+use output::Measure;
 use output::Output;
 use rules::Settings;
 
@@ -55,7 +56,7 @@ pub fn visible(x: Settings, b: u8) -> Seen
 }
 
 // the byte as it is visible
-fn show(o: Output, x: Settings, out: &mut [u8], b: u8) -> Output
+pub fn show(o: Output, x: Settings, out: &mut [u8], b: u8) -> Output
     ensures { λ r. ⌜ Echoes x o (now (out .entry)) (echo.visible x b) r (now (out .exit)) ⌝ }
 {
     let v = visible(x, b);
@@ -69,7 +70,7 @@ fn show(o: Output, x: Settings, out: &mut [u8], b: u8) -> Output
 }
 
 // and 10 behind it
-fn show_line(o: Output, x: Settings, out: &mut [u8], b: u8) -> Output
+pub fn show_line(o: Output, x: Settings, out: &mut [u8], b: u8) -> Output
     ensures { λ r. ⌜ Echoes x o (now (out .entry)) (echo.visible x b ++ (10 ∷ [])) r (now (out .exit)) ⌝ }
 {
     let v = visible(x, b);
@@ -80,6 +81,19 @@ fn show_line(o: Output, x: Settings, out: &mut [u8], b: u8) -> Output
     }
     let e = [c, 10];
     o.show(x, out, &e)
+}
+
+// the byte as it is visible, behind what is measured
+pub fn measured(m: Measure, x: Settings, b: u8) -> Measure
+    ensures { λ r. ⌜ ExtendsBy x m (echo.visible x b) r ⌝ }
+{
+    let v = visible(x, b);
+    let c = v.byte;
+    if v.pair {
+        let first = m.and(x, 94);
+        return first.and(x, c);
+    }
+    m.and(x, c)
 }
 
 // 'ECHO clear: nothing is shown'

@@ -118,7 +118,7 @@ all-length i bs ms e =
     places-length (held (i .queue) bs) (held (i .queue) ms) (held-both (i .queue) bs ms e) ∙ held-length (i .queue) bs
 
 -- places used, in any range
-used-least : (i : Input) (bs ms : List ℕ) → length bs ≡ length ms → used (get i bs ms) ≡ min (i .queue .len) (length bs)
+pub used-least : (i : Input) (bs ms : List ℕ) → length bs ≡ length ms → used (get i bs ms) ≡ min (i .queue .len) (length bs)
 used-least i bs ms e = sym (stored-length (get i bs ms)) ∙ ap length (stored-all i bs ms) ∙ all-length i bs ms e
 
 module _ (i : Input) (bs ms : List ℕ) (e : length bs ≡ length ms) (h : Within i (length bs)) where

@@ -1,28 +1,31 @@
 -- One lemma for each way out of the functions of this crate. Assumes nothing.
 use mathlib.Core.Path.{_≡_, refl, sym, ap, subst, _∙_}
 use mathlib.Core.Bool.{Bool, true, false, not, _&&_, cond, false≢true}
-use mathlib.Core.List.{List, [], _∷_, _++_}
-use Prim.Native.Nat.{ℕ, _+_, _%_, _<_, _≤_, min}
+use mathlib.Core.List.{List, [], _∷_}
+use Prim.Native.Nat.{ℕ, _+_, _%_, _≤_, min}
+use native.Mathlib.Nat.{mod-mod}
 use native.Mathlib.Omega.{arith}
 use lib.ListN.{length}
 use lib.Dec.{leb, ltb, eqb}
 use borrow.Author.Tests.{leb-true, ltb-true}
 use Rattle.rules.specs.declared.Settings.{Settings}
 use Rattle.rules.specs.declared.Waiting.{Waiting}
-use Rattle.rules.specs.Sizes.{Sizes, State, Place, Input as RuledInput, used, unit}
+use Rattle.rules.specs.Sizes.{Sizes, State, Place, Input as RuledInput, Output as RuledOutput, used, unit}
 use Rattle.rules.specs.Flushing as flushing
 use Rattle.rules.specs.Fit as fit
 use Rattle.rules.specs.Output as rule
 use Rattle.rules.specs.Received as steps
+use Rattle.rules.specs.Echo.{shown}
+use Rattle.queue.specs.Ring.{stores}
 use Rattle.input.specs.Contract as input
 use Rattle.input.specs.declared.Input.{Input}
-use Rattle.input.specs.declared.Unit.{Unit}
 use Rattle.input.proofs.Laws as stored
 use Rattle.output.specs.Contract as output
 use Rattle.output.specs.declared.Output.{Output}
 use Rattle.output.proofs.Laws as queued
 use Rattle.echo.specs.Contract.{Echoes}
 use Rattle.echo.proofs.Laws.{shows-none}
+use Rattle.port.specs.State.{withOutput}
 use Rattle.port.specs.declared.Port.{Port}
 use Rattle.storing.specs.Contract.{state, sizesOf, Ranged, Ready, Becomes, Turns, assembled}
 
@@ -31,13 +34,13 @@ and-right true b e = e
 and-right false b e = absurd (false≢true e)
 
 -- an output in range that stays as it is
-output-stays : (o : Output) (os : List ℕ) → o ≡ queued.inRange (length os) o → output.Becomes o os (output.get o os) o os
+pub output-stays : (o : Output) (os : List ℕ) → o ≡ queued.inRange (length os) o → output.Becomes o os (output.get o os) o os
 output-stays o os e =
     let b : output.Becomes o os (output.get o os) (queued.inRange (length os) o) os = queued.stays o os in
     record { output = e ∙ b .output; slice = b .slice }
 
 -- an input in range that stays as it is
-input-stays : (i : Input) (bs ms : List ℕ) → length bs ≡ length ms → input.Within i (length bs) → input.Becomes i bs ms (input.get i bs ms) i bs ms
+pub input-stays : (i : Input) (bs ms : List ℕ) → length bs ≡ length ms → input.Within i (length bs) → input.Becomes i bs ms (input.get i bs ms) i bs ms
 unfolding input.get
 input-stays i bs ms e w =
     let c : input.Becomes i bs ms (input.cutAt i bs ms (i .queue .len)) (input.shortened (i .queue .len) i) bs ms =
@@ -228,3 +231,49 @@ one-port h k =
       i .2,
       h .output .slice ∙ sym (k .output .slice),
     )
+
+---- A port that stays, and one that then shows something
+
+-- nothing happens
+pub stays : (p : Port) (bs ms os : List ℕ) → Ready p bs ms os → Becomes p bs ms os (state p bs ms os) p bs ms os
+stays p bs ms os g =
+    record {
+      input = input-stays (p .input) bs ms (g .same) (g .ranged .input);
+      output = output-stays (p .output) os (g .ranged .output);
+      settings = refl;
+      line = refl;
+      foreground = refl;
+      hung = refl;
+      waiting = refl;
+    }
+
+-- the output of w is in the slice, and then the bytes e are echoed behind it
+shown-behind : (x : Settings) (a b o : Output) (os os′ e : List ℕ) (w : RuledOutput) → length (w .queue) ≤ length os → output.Becomes a os w b os
+    → Echoes x b os e o os′
+    → output.Becomes a os (rule.queuedWhole (length os) x w (rule.processed x (w .column) e)) o os′
+shown-behind x a b o os os′ e w le h k =
+    let n : ℕ = length os in
+    let v : RuledOutput = rule.queuedWhole n x (output.get b os) (rule.processed x (b .column) e) in
+    let same : v ≡ rule.queuedWhole n x w (rule.processed x (w .column) e) =
+    ap (λ (y : RuledOutput). rule.queuedWhole n x y (rule.processed x (b .column) e)) (queued.get-after a b os os w h le)
+    ∙ ap (λ (y : ℕ). rule.queuedWhole n x w (rule.processed x y e)) (queued.column-after a b os os w h) in
+    let head : b .queue .head % n ≡ a .queue .head % n =
+    ap (λ (y : ℕ). y % n) (queued.head-after a b os os w h) ∙ mod-mod (a .queue .head) n in
+    queued.becomes a o os os′ v (rule.queuedWhole n x w (rule.processed x (w .column) e)) same
+    (record { output = k .output ∙ ap (output.put v) head; slice = k .slice ∙ ap (λ (y : ℕ). stores n os y (v .queue)) head })
+
+-- the port q is the state w and its slices are as they were; then the bytes e are echoed
+pub then-shown : (p q r : Port) (bs ms os os′ e : List ℕ) (w : State) (o : Output) (n : ℕ) → Becomes p bs ms os w q bs ms os
+    → length (w .output .queue) ≤ length os
+    → Echoes (w .settings) (q .output) os e o os′ → r ≡ withOutput q o → Becomes p bs ms os (shown (sizesOf p n (length os)) w e) r bs ms os′
+then-shown p q r bs ms os os′ e w o n b le k er =
+    as-assembled p (withOutput q o) r bs ms os bs ms os′ (shown (sizesOf p n (length os)) w e) er
+    (record {
+      input = b .input;
+      output = shown-behind (w .settings) (p .output) (q .output) o os os′ e (w .output) le (b .output) k;
+      settings = b .settings;
+      line = b .line;
+      foreground = b .foreground;
+      hung = b .hung;
+      waiting = b .waiting;
+    })

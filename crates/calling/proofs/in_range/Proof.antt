@@ -1,0 +1,33 @@
+-- `calling::in_range` meets its contract. Assumes nothing.
+use mathlib.Core.Path.{_≡_, refl, sym, ap, subst, _∙_}
+use Rattle.input.specs.Contract.{fitted}
+use Rattle.input.specs.declared.Input.{Input}
+use Rattle.output.specs.declared.Output.{Output}
+use Rattle.storing.specs.Contract.{assembled}
+use borrow.Author.Needs.{needs}
+use Rattle.calling.proofs.in_range.Statement.{statement}
+use Rattle.calling.proofs.in_range.Tie as tie
+use Rattle.calling.proofs.in_range.Reads as reads
+use Rattle.calling.proofs.in_range.Lts as lts
+use Rattle.input.proofs.Input.fit.Reads as Input-fit-reads
+use Rattle.output.proofs.Output.fit.Reads as Output-fit-reads
+use Rattle.storing.proofs.assemble.Reads as assemble-reads
+
+fit-requires : tie.Need-fit-requires
+fit-requires c κs = search needs
+
+fit-requires-2 : tie.Need-fit-requires-2
+fit-requires-2 c κs = search needs
+
+assemble-requires : tie.Need-assemble-requires
+assemble-requires c κs = search needs
+
+returns : tie.Need-returns
+returns c =
+    let p = (c .before .before .before .before .before .args .p) in
+    (c .assemble .ensures)
+    ∙ ap (λ (y : Input). assembled p y (c .before .fit2 .result) (p .waiting)) (c .before .before .fit .ensures)
+    ∙ ap (λ (y : Output). assembled p (fitted ((c .before .before .before .before .before .args .n)) (p .input)) y (p .waiting)) (c .before .fit2 .ensures)
+
+pub in-range-spec : {M : Type 1} → statement M
+in-range-spec = tie.close (tie.spec fit-requires fit-requires-2 assemble-requires returns)

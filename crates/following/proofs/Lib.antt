@@ -1,0 +1,2 @@
+-- What is proved of an event: Laws has `received-goes` and `flushed-goes`.
+pub mod Laws

@@ -1,0 +1,2 @@
+-- What an event does to stored input.
+pub mod Following
