@@ -24,12 +24,12 @@ use Rattle.port.specs.declared.Answered.{Answered}
 use Rattle.storing.specs.Contract.{Becomes, state}
 use Rattle.storing.proofs.Laws.{one-port}
 use Rattle.following.specs.Following.{Follows, grown, fewer, Goes}
-use Rattle.calling.specs.Contract.{Leaves, Calls, Keeps, Asks}
+use Rattle.calling.specs.Contract.{Leaves, Calls, Keeps, Asks, Now}
 use Rattle.calling.proofs.Laws.{bytes-long, marks-long}
 
 ---- No second result
 
-whole : (n : ℕ) (a b : List ℕ) → take n a ≡ take n b → drop n a ≡ drop n b → a ≡ b
+pub whole : (n : ℕ) (a b : List ℕ) → take n a ≡ take n b → drop n a ≡ drop n b → a ≡ b
 whole n a b t d = sym (take-append-drop n a) ∙ ap₂ (λ (x y : List ℕ). x ++ y) t d ∙ take-append-drop n b
 
 one-left : {p : Port} {bs ms os : List ℕ} {w : State} {r q : Port} {bs′ ms′ os′ cs ns qs : List ℕ} → Leaves p bs ms os w r bs′ ms′ os′
@@ -42,7 +42,7 @@ one-left {p} {bs} {ms} {os} {w} {r} {q} {bs′} {ms′} {os′} {cs} {ns} {qs} h
       s .3,
     )
 
-same-answered : (r q : Answered) → r .port ≡ q .port → r .answer ≡ q .answer → r ≡ q
+pub same-answered : (r q : Answered) → r .port ≡ q .port → r .answer ≡ q .answer → r ≡ q
 same-answered r q e f = ap₂ (λ (y : Port) (a : Answer). record { port = y; answer = a }) e f
 
 pub one-call : {p : Port} {bs ms os : List ℕ} {w : State × Reply} {r q : Answered} {bs′ ms′ os′ cs ns qs : List ℕ} → Calls p bs ms os w r bs′ ms′ os′
@@ -61,23 +61,18 @@ one-asked {p} {bs} {ms} {os} {w} {r} {q} h k =
 
 ---- The state after
 
--- The state is w, and the sizes are as before.
-pub record Now (p : Port) (bs ms os : List ℕ) (w : State) (r : Port) (bs′ ms′ os′ : List ℕ) : Type 0 where
-  pub state : get r bs′ ms′ os′ ≡ w
-  pub sizes : sizes r bs′ ms′ os′ ≡ sizes p bs ms os
-
 followed : (i r : Input) (bs ms bs′ ms′ : List ℕ) (w : RuledInput) → length bs ≡ length ms → Follows (input.get i bs ms) w → used w ≤ length bs
     → input.Becomes i bs ms w r bs′ ms′ → After w bs ms r bs′ ms′
 followed i r bs ms bs′ ms′ w e (grown u es) le b = get-grown i bs ms w e u r bs′ ms′ es le b
 followed i r bs ms bs′ ms′ w e (fewer k es) le b = get-fewer i bs ms w e k es r bs′ ms′ b
 
-same-state : (x x′ : Settings) (i i′ : RuledInput) (o o′ : RuledOutput) (g g′ : Group) (h h′ : Bool) (t t′ : Waiting)
+pub same-state : (x x′ : Settings) (i i′ : RuledInput) (o o′ : RuledOutput) (g g′ : Group) (h h′ : Bool) (t t′ : Waiting)
     → x ≡ x′ → i ≡ i′ → o ≡ o′ → g ≡ g′ → h ≡ h′ → t ≡ t′
     → _≡_ {A = State} (record { settings = x; input = i; output = o; foreground = g; hungUp = h; waiting = t })
     (record { settings = x′; input = i′; output = o′; foreground = g′; hungUp = h′; waiting = t′ })
 same-state x x′ i i′ o o′ g g′ h h′ t t′ ex ei eo eg eh et = cc
 
-long-again : (n : ℕ) (a b : List ℕ) → length (take n a) ≡ length (take n b) → drop n a ≡ drop n b → length a ≡ length b
+pub long-again : (n : ℕ) (a b : List ℕ) → length (take n a) ≡ length (take n b) → drop n a ≡ drop n b → length a ≡ length b
 long-again n a b t d =
     omega (
       arith,

@@ -54,3 +54,16 @@ withGroup p g =
 -- a call that changes the foreground group at most, whatever the slices are
 abbrev pub grouped : Port → State × Reply → Answered
 grouped p w = record { port = withGroup p (w .0 .foreground); answer = w .1 .answer }
+
+-- a call that ends a waiting read at most
+abbrev pub cancelled : Port → State × Reply → Answered
+cancelled p w = record { port = assembled p (p .input) (p .output) (w .0 .waiting); answer = w .1 .answer }
+
+-- a call that changes nothing
+abbrev pub answered : Port → State × Reply → Answered
+answered p w = record { port = p; answer = w .1 .answer }
+
+-- After a call: the state is w, and the sizes are as before.
+pub record Now (p : Port) (bs ms os : List ℕ) (w : State) (r : Port) (bs′ ms′ os′ : List ℕ) : Type 0 where
+  pub state : get r bs′ ms′ os′ ≡ w
+  pub sizes : sizes r bs′ ms′ os′ ≡ sizes p bs ms os

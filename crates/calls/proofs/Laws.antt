@@ -1,14 +1,17 @@
 -- One lemma for each way out of a call. Assumes nothing.
 use mathlib.Core.Path.{_≡_, refl, sym, ap, subst, _∙_}
-use mathlib.Core.Bool.{Bool, true, false}
+use mathlib.Core.Bool.{Bool, true, false, _||_}
 use mathlib.Core.List.{List, []}
 use Prim.Native.Nat.{ℕ}
 use lib.ListN.{length}
 use lib.Dec.{eqb}
 use borrow.Author.Tests.{eq-eqb, ne-eqb}
-use Rattle.rules.specs.declared.Call.the-variants.{Foreground}
+use Rattle.rules.specs.declared.Call.the-variants.{Foreground, Cancel}
 use Rattle.rules.specs.declared.Group.{Group}
-use Rattle.rules.specs.declared.Outcome.the-variants.{Ok, Refused}
+use Rattle.rules.specs.declared.Outcome.the-variants.{Ok, Judged, Refused}
+use Rattle.rules.specs.declared.Process.{Process}
+use Rattle.rules.specs.declared.Verdict.{Verdict}
+use Rattle.rules.specs.declared.Waiting.the-variants.{Idle}
 use Rattle.rules.specs.declared.Refusal.the-variants.{OutOfRange}
 use Rattle.rules.specs.Sizes.{State}
 use Rattle.rules.specs.Refusals.{says}
@@ -19,10 +22,10 @@ use Rattle.port.specs.State.{places, get}
 use Rattle.port.specs.Contract.{flushed}
 use Rattle.port.specs.declared.Port.{Port}
 use Rattle.port.specs.declared.Answered.{Answered}
-use Rattle.storing.specs.Contract.{state, Ranged, Turns}
+use Rattle.storing.specs.Contract.{state, Ranged, Turns, assembled}
 use Rattle.storing.proofs.Laws.{as-assembled, input-stays}
 use Rattle.calling.proofs.Laws.{asks-as, ranged-ranged, turned-of}
-use Rattle.calling.specs.Contract.{stepOf, Asks, ranged, withGroup, grouped}
+use Rattle.calling.specs.Contract.{stepOf, Asks, ranged, withGroup, grouped, cancelled, answered}
 
 ---- Flushing
 
@@ -99,3 +102,31 @@ module _ (p : Port) (group : ℕ) (orphaned : Bool) (a : Answered) (t : Bool) (e
       ea
       ∙ ap (λ (y : Port). record { port = y; answer = record { outcome = Ok; count = 0 } }) (eq ∙ ap (withGroup p) eg)
       ∙ ap (grouped p) (large false e)
+
+---- Cancel, and the verdicts
+
+pub cancel-of : (p q : Port) (a : Answered) → q ≡ assembled p (p .input) (p .output) Idle → a ≡ record { port = q; answer = record { outcome = Ok; count = 0 } }
+    → a ≡ cancelled p (stepOf p [] [] [] Cancel [])
+cancel-of p q a eq ea = ea ∙ ap (λ (y : Port). record { port = y; answer = record { outcome = Ok; count = 0 } }) eq
+
+module _ (p : Port) (who : Process) (v : Verdict) (a : Answered) (t : Bool) (et : t ≡ verdict.tooLarge (who .group)) where
+  judged-as : (u : Bool) → (verdict.tooLarge (who .group) || eqb (who .group) 0) ≡ u
+      → answered p (verdict.judgedOn u (get p [] [] []) v) ≡ answered p (verdict.judged (get p [] [] []) who v)
+  judged-as u e = ap (λ (y : Bool). answered p (verdict.judgedOn y (get p [] [] []) v)) (sym e)
+
+  pub judged-large : t ≡ true → a ≡ record { port = p; answer = record { outcome = Refused OutOfRange; count = 0 } }
+      → a ≡ answered p (verdict.judged (get p [] [] []) who v)
+  judged-large e ea = ea ∙ judged-as true (ap (λ (y : Bool). y || eqb (who .group) 0) (sym et ∙ e))
+
+  pub judged-none : t ≡ false → who .group ≡ 0 → a ≡ record { port = p; answer = record { outcome = Refused OutOfRange; count = 0 } }
+      → a ≡ answered p (verdict.judged (get p [] [] []) who v)
+  judged-none e z ea = ea ∙ judged-as true (ap (λ (y : Bool). y || eqb (who .group) 0) (sym et ∙ e) ∙ eq-eqb (who .group) 0 z)
+
+  pub judged-given : t ≡ false → (who .group ≡ 0 → ⊥) → a ≡ record { port = p; answer = record { outcome = Judged v; count = 0 } }
+      → a ≡ answered p (verdict.judged (get p [] [] []) who v)
+  judged-given e some ea = ea ∙ judged-as false (ap (λ (y : Bool). y || eqb (who .group) 0) (sym et ∙ e) ∙ ne-eqb (who .group) 0 some)
+
+-- the verdict that the rules give
+pub verdict-of : (p : Port) (who : Process) (v : Verdict) {u : Verdict} → v ≡ u → (a : Answered) → a ≡ answered p (verdict.judged (get p [] [] []) who v)
+    → a ≡ answered p (verdict.judged (get p [] [] []) who u)
+verdict-of p who v e a ea = ea ∙ ap (λ (y : Verdict). answered p (verdict.judged (get p [] [] []) who y)) e

@@ -1,13 +1,18 @@
-// Calls of document 01 for every value of port and slices: flushing, the foreground group.
+// Calls of document 01 for every value of port and slices: flushing, the foreground group, cancel, job control verdicts.
 ghost use mathlib.Core.Path.{_≡_};
 ghost use mathlib.Core.List.{[]};
-ghost use Rattle.calling.specs.Contract.{Asks, stepOf, grouped, withGroup};
+ghost use Rattle.rules.specs.Verdicts as rule;
+ghost use Rattle.port.specs.State.{get};
+ghost use Rattle.calling.specs.Contract.{Asks, stepOf, grouped, withGroup, cancelled, answered};
 use port::Answered;
 use port::Port;
 use rules::Call;
 use rules::Group;
 use rules::Outcome;
+use rules::Process;
 use rules::Refusal;
+use rules::Verdict;
+use rules::Waiting;
 
 // 'a flush choice': 1 input, 2 output, 3 both
 pub fn flush(p: Port, bytes: &[u8], marks: &[u8], out: &[u8], choice: u8) -> Answered
@@ -54,4 +59,56 @@ pub fn foreground(p: Port, group: u32, orphaned: bool) -> Answered
     }
     let g = verdicts::group_of(group, orphaned);
     calling::says(with_group(p, g), Outcome::Ok, 0)
+}
+
+// 'Cancel ends a waiting read and moves nothing.'
+pub fn cancel(p: Port) -> Answered
+    ensures { λ r. ⌜ r ≡ cancelled p (stepOf p [] [] [] Call.Cancel []) ⌝ }
+{
+    let input = p.input;
+    let output = p.output;
+    let q = storing::assemble(p, input, output, Waiting::Idle);
+    calling::says(q, Outcome::Ok, 0)
+}
+
+// Refusal 2: 'a group above 2,147,483,647, or a process group of 0 in a verdict'.
+fn judged(p: Port, who: Process, v: Verdict) -> Answered
+    ensures { λ r. ⌜ r ≡ answered p (rule.judged (get p [] [] []) who v) ⌝ }
+{
+    let group = who.group;
+    if verdicts::too_large(group) {
+        return calling::says(p, Outcome::Refused(Refusal::OutOfRange), 0);
+    }
+    if group == 0 {
+        return calling::says(p, Outcome::Refused(Refusal::OutOfRange), 0);
+    }
+    calling::says(p, Outcome::Judged(v), 0)
+}
+
+// 'Job control verdicts': a background read
+pub fn read_verdict(p: Port, who: Process) -> Answered
+    ensures { λ r. ⌜ r ≡ answered p (stepOf p [] [] [] (Call.ReadVerdict who) []) ⌝ }
+{
+    let f = p.foreground;
+    let v = verdicts::read_verdict(f, who);
+    judged(p, who, v)
+}
+
+// a background write
+pub fn write_verdict(p: Port, who: Process) -> Answered
+    ensures { λ r. ⌜ r ≡ answered p (stepOf p [] [] [] (Call.WriteVerdict who) []) ⌝ }
+{
+    let x = p.settings;
+    let f = p.foreground;
+    let v = verdicts::write_verdict(x.tostop, f, who);
+    judged(p, who, v)
+}
+
+// 'Changing settings: as a write with TOSTOP set.'
+pub fn settings_verdict(p: Port, who: Process) -> Answered
+    ensures { λ r. ⌜ r ≡ answered p (stepOf p [] [] [] (Call.SettingsVerdict who) []) ⌝ }
+{
+    let f = p.foreground;
+    let v = verdicts::settings_verdict(f, who);
+    judged(p, who, v)
 }

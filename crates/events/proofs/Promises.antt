@@ -9,8 +9,8 @@ use Rattle.port.specs.declared.Port.{Port}
 use Rattle.port.specs.declared.Answered.{Answered}
 use Rattle.storing.specs.Contract.{state}
 use Rattle.following.proofs.Laws.{received-goes}
-use Rattle.calling.specs.Contract.{stepOf, Calls}
-use Rattle.calling.proofs.Promises.{Now, left-now, within-places, within-queue}
+use Rattle.calling.specs.Contract.{stepOf, Calls, Now}
+use Rattle.calling.proofs.Promises.{left-now, within-places, within-queue}
 
 module _ (p : Port) (bs ms os : List ℕ) where
   pub received-now : (e : Event) (r : Answered) (bs′ ms′ os′ : List ℕ) → Calls p bs ms os (stepOf p bs ms os (Receive e) []) r bs′ ms′ os′

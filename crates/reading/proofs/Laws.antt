@@ -348,12 +348,12 @@ module _ (i : Input) (bs ms : List ℕ) (h : Sound i bs ms) where
       let s = line-splits (length d) (get i bs ms .finished) in
       reads-after (firstLine (length d) (get i bs ms .finished)) (s .0) (s .1) (s .2) d r d′ g
 
-  pub bytes-after : (d : List ℕ) (r : Taken) (d′ : List ℕ) → ReadsBytes i bs d r d′
+  pub bytes-after : (d : List ℕ) (r : Taken) (d′ : List ℕ) → Reads i bs ms d (firstBytes (length d) (get i bs ms .finished)) r d′
       → After (leaves (get i bs ms) (firstBytes (length d) (get i bs ms .finished) .left)) bs ms (r .input) bs ms
   bytes-after d r d′ g =
       let ps : List Place = get i bs ms .finished in
       let k : ℕ = min (length d) (length ps) in
-      reads-after (firstBytes (length d) ps) k k (bytes-splits (length d) ps) d r d′ (g ms (h .same))
+      reads-after (firstBytes (length d) ps) k k (bytes-splits (length d) ps) d r d′ g
 
   -- the ways out of read_line and read_bytes
   pub line-gives : (d : List ℕ) (l : Line) → TellsLine i ms (length d) l → Gives i bs d (l .count) (l .taken)

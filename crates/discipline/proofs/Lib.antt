@@ -1,0 +1,3 @@
+pub mod Laws
+pub mod Promises
+pub mod Demand2
