@@ -1,0 +1,226 @@
+-- One lemma for each way out of the functions of this crate. Assumes nothing.
+use Prim.Native.Nat.{ℕ, suc, _+_, _≤_, _<_, min}
+use native.Mathlib.Nat.{zero-add}
+use native.Mathlib.Numerals.{add-one}
+use native.Mathlib.Omega.{arith}
+use mathlib.Core.Path.{_≡_, refl, sym, ap, ap₂, subst, _∙_}
+use mathlib.Core.Bool.{Bool, true, false, _&&_, _||_}
+use mathlib.Core.List.{List, [], _∷_, _++_, append-assoc}
+use lib.ListN.{length, take, drop, getD, set, length-append}
+use lib.Seq.{paste, paste-zero, paste-suc, length-paste, length-take-le, take-at, take-all}
+use lib.Dec.{eqb, ltb}
+use Rattle.rules.specs.declared.Answer.{Answer}
+use Rattle.rules.specs.declared.Call.{Call}
+use Rattle.rules.specs.declared.Call.the-variants.{Set, Receive, Read, Write, Transmit, Flush, Cancel, Foreground, ReadVerdict, WriteVerdict, SettingsVerdict}
+use Rattle.rules.specs.declared.Outcome.the-variants.{Refused}
+use Rattle.rules.specs.declared.Refusal.the-variants.{OutOfRange}
+use Rattle.rules.specs.declared.Settings.{Settings}
+use Rattle.rules.specs.declared.Verdict.{Verdict}
+use Rattle.rules.specs.Sizes.{Sizes, State}
+use Rattle.rules.specs.Settings.{acceptable}
+use Rattle.rules.specs.Refusals.{Reply, handed}
+use Rattle.rules.specs.Flushing as flushing
+use Rattle.rules.specs.Output as rule
+use Rattle.rules.specs.Reads as reads
+use Rattle.rules.specs.Verdicts as verdict
+use Rattle.rules.specs.Step.{step, setOn, aReadWaits}
+use Rattle.rules.specs.Trace.{decode, answered, asks, malformed}
+use Rattle.rules.proofs.OutputLaws.{append-nil}
+use Rattle.port.specs.State.{sizes, get}
+use Rattle.port.specs.declared.Port.{Port}
+use Rattle.port.specs.declared.Answered.{Answered}
+use Rattle.records.specs.Lines.{Prints, lineOf}
+use Rattle.records.specs.Records.{Decodes, lentOf, meant, told}
+use Rattle.records.specs.declared.Decoded.{Decoded}
+use Rattle.records.specs.declared.Decoded.the-variants.{WellFormed, Malformed}
+use Rattle.discipline.specs.Contract.{Stepped, held}
+use Rattle.trace.specs.Contract.{answeredOf, givenOf, Carries, Records}
+use Rattle.trace.specs.declared.Carried.{Carried}
+use Rattle.trace.proofs.Bounds.{Bounded, bounded}
+
+---- load
+
+-- after i bytes of the body
+pub record Loading (l body : List ℕ) (k i : ℕ) (m : List ℕ) : Type 0 where
+  pub upto : i ≤ k
+  pub most : k ≤ min (length body) (length l)
+  pub slice : m ≡ paste l 0 body i
+
+pub loading-begins : (l body : List ℕ) (n most k : ℕ) → most ≡ min (length body) (length l) → k ≡ min n most → Loading l body k 0 l
+loading-begins l body n most k em ek = record { upto = omega arith; most = omega (arith, em, ek); slice = paste-zero l 0 body }
+
+pub loading-next : (l body : List ℕ) (k i : ℕ) (m : List ℕ) → Loading l body k i m → i < k → Loading l body k (i + 1) (set m i (getD body i 0))
+loading-next l body k i m a lt =
+    record {
+      upto = omega arith;
+      most = a .most;
+      slice =
+          ap (λ (y : List ℕ). set y i (getD body i 0)) (a .slice)
+          ∙ ap (λ (j : ℕ). set (paste l 0 body i) j (getD body i 0)) (sym (zero-add i))
+          ∙ paste-suc l 0 body i 0 (omega (arith, a .most)) (omega (arith, a .most))
+          ∙ ap (paste l 0 body) (sym (add-one i));
+    }
+
+pub loaded : (l body : List ℕ) (n most k i : ℕ) (m : List ℕ) → most ≡ min (length body) (length l) → k ≡ min n most → Loading l body k i m → k ≤ i
+    → m ≡ take (min n (min (length body) (length l))) body ++ drop (min n (min (length body) (length l))) l
+loaded l body n most k i m em ek a le =
+    let all : i ≡ min n (min (length body) (length l)) = omega (arith, a .upto, em, ek) in
+    a .slice ∙ ap (λ (j : ℕ). take i body ++ drop j l) (zero-add i) ∙ ap (λ (j : ℕ). take j body ++ drop j l) all
+
+pub loading-size : (l body : List ℕ) (k i : ℕ) (m : List ℕ) → Loading l body k i m → length m ≡ length l
+loading-size l body k i m a =
+    ap length (a .slice) ∙ length-paste l 0 body i (omega (arith, a .upto, a .most)) (omega (arith, a .upto, a .most))
+
+---- What a call hands out, and counts
+
+module _ (z : Sizes) (s : State) (l : List ℕ) where
+  -- of one reply
+  abbrev Counted : Call → Reply → Type 0
+  Counted call r = length (handed r) ≡ givenOf call (r .answer .count)
+
+  set-counted : (x : Settings) (a b : Bool) → Counted (Set x) (setOn a b s x .1)
+  set-counted x true b = refl
+  set-counted x false true = refl
+  set-counted x false false = refl
+
+  ruled-counted : (nonblocking a b c : Bool) (n : ℕ) → Counted (Read nonblocking) (reads.ruledOn a b c s n .1)
+  ruled-counted nonblocking true true c n = refl
+  ruled-counted nonblocking true false c n = refl
+  ruled-counted nonblocking false b true n = refl
+  ruled-counted nonblocking false b false n = refl
+
+  read-counted : (a b c nonblocking : Bool) (n : ℕ) → Counted (Read nonblocking) (reads.readOn a b c s nonblocking n .1)
+  read-counted true b c nonblocking n = refl
+  read-counted false true c nonblocking n = refl
+  read-counted false false true nonblocking n = refl
+  read-counted false false false nonblocking n =
+      ruled-counted nonblocking nonblocking (reads.isEmpty (s .input .finished)) (reads.doneOn (s .settings .icanon) s n) n
+
+  write-counted : (a b : Bool) (n : ℕ) → Counted Write (rule.writtenOn a b s l n .1)
+  write-counted true b n = refl
+  write-counted false true n = refl
+  write-counted false false n = refl
+
+  flush-counted : (choice : ℕ) (a b c : Bool) → Counted (Flush choice) (flushing.flushedOn a b c s .1)
+  flush-counted choice true b c = refl
+  flush-counted choice false true c = refl
+  flush-counted choice false false true = refl
+  flush-counted choice false false false = refl
+
+  group-counted : (group : ℕ) (orphaned a : Bool) → Counted (Foreground group orphaned) (verdict.foregroundOn a s group orphaned .1)
+  group-counted group orphaned true = refl
+  group-counted group orphaned false = refl
+
+  judged-none : (a : Bool) (v : Verdict) → length (handed (verdict.judgedOn a s v .1)) ≡ 0
+  judged-none true v = refl
+  judged-none false v = refl
+
+  handed-count : (call : Call) → Counted call (step z s call l .1)
+  handed-count (Set x) = set-counted x (aReadWaits (s .waiting)) (acceptable x)
+  handed-count (Receive e) = refl
+  handed-count (Read nonblocking) =
+      read-counted (s .hungUp) (reads.clashes (s .waiting) nonblocking (length l)) (eqb (length l) 0) nonblocking (length l)
+  handed-count Write =
+      let n : ℕ = rule.taken (z .output) (s .settings) (length (s .output .queue)) (s .output .column) l in
+      write-counted (s .hungUp) (ltb 0 (length l) && eqb n 0) n
+  handed-count Transmit = ap length (append-nil (rule.oldest (s .output) (length l)))
+  handed-count (Flush choice) = flush-counted choice (eqb choice 1) (eqb choice 2) (eqb choice 3)
+  handed-count Cancel = refl
+  handed-count (Foreground group orphaned) = group-counted group orphaned (verdict.tooLarge group)
+  handed-count (ReadVerdict p) = judged-none (verdict.tooLarge (p .group) || eqb (p .group) 0) (verdict.readVerdict (s .foreground) p)
+  handed-count (WriteVerdict p) =
+      judged-none (verdict.tooLarge (p .group) || eqb (p .group) 0) (verdict.writeVerdict (s .settings .tostop) (s .foreground) p)
+  handed-count (SettingsVerdict p) = judged-none (verdict.tooLarge (p .group) || eqb (p .group) 0) (verdict.settingsVerdict (s .foreground) p)
+
+---- The call of a record is made with what the rules lend
+
+-- a buffer of n bytes whose first are the body's: for a write it is the body, and no other call looks at what the buffer holds
+loaded-step : (z : Sizes) (s : State) (call : Call) (n : ℕ) (body l m : List ℕ) → n ≡ length (lentOf call n body) → n ≤ length l → length m ≡ length l
+    → m ≡ take (min n (min (length body) (length l))) body ++ drop (min n (min (length body) (length l))) l
+    → step z s call (take n m) ≡ step z s call (lentOf call n body)
+loaded-step z s (Set x) n body l m en le em e = refl
+loaded-step z s (Receive x) n body l m en le em e = refl
+loaded-step z s (Read nonblocking) n body l m en le em e = ap (reads.read s nonblocking) (length-take-le n m (omega arith) ∙ en)
+loaded-step z s Write n body l m en le em e =
+    let k : min n (min (length body) (length l)) ≡ n = omega arith in
+    let same : take n m ≡ body =
+    ap (take n) (e ∙ ap (λ (j : ℕ). take j body ++ drop j l) k)
+    ∙ take-at (take n body) (drop n l) n (length-take-le n body (omega arith))
+    ∙ take-all n body (omega arith) in
+    ap (step z s Write) same
+loaded-step z s Transmit n body l m en le em e = ap (rule.transmit s) (length-take-le n m (omega arith) ∙ en)
+loaded-step z s (Flush choice) n body l m en le em e = refl
+loaded-step z s Cancel n body l m en le em e = refl
+loaded-step z s (Foreground group orphaned) n body l m en le em e = refl
+loaded-step z s (ReadVerdict p) n body l m en le em e = refl
+loaded-step z s (WriteVerdict p) n body l m en le em e = refl
+loaded-step z s (SettingsVerdict p) n body l m en le em e = refl
+
+-- how many bytes an answer of the decoder lends
+abbrev lentBy : Decoded → ℕ
+lentBy (WellFormed c n) = n
+lentBy Malformed = 0
+
+---- carry
+
+module _ (p : Port) (bs ms os : List ℕ) (kind : ℕ) (body : List ℕ) (d : Decoded) (h : Decodes kind body d) where
+  pub malformed-carried : (l : List ℕ) → d ≡ Malformed
+      → Carries p bs ms os kind body (record { port = p; answer = record { outcome = Refused OutOfRange; count = 0 }; given = 0 }) bs ms os l
+  malformed-carried l e =
+      let w : malformed ≡ decode kind body = sym (ap (λ (y : Decoded). meant y body) e) ∙ h .means in
+      let r : answered (sizes p bs ms os) (get p bs ms os) malformed ≡ answeredOf p bs ms os kind body =
+      ap (answered (sizes p bs ms os) (get p bs ms os)) w in
+      record {
+        answer = ap (λ (y : State × Reply). y .1 .answer) r;
+        given = ap (λ (y : State × Reply). handed (y .1)) r;
+        upto = omega arith;
+        now = record { state = ap (λ (y : State × Reply). y .0) r; sizes = refl };
+      }
+
+  module _ (call : Call) (n : ℕ) (e : d ≡ WellFormed call n) where
+    asked : asks call (lentOf call n body) ≡ decode kind body
+    asked = sym (ap (λ (y : Decoded). meant y body) e) ∙ h .means
+
+    as-long : n ≡ length (lentOf call n body)
+    as-long = ap lentBy (sym e ∙ h .tells ∙ ap told (sym asked))
+
+    pub at-most : n ≤ 2048
+    at-most = omega (arith, as-long, subst Bounded (sym asked) (bounded kind body))
+
+    pub carried : (l m l′ bs′ ms′ os′ : List ℕ) (r : Answered) (g : ℕ) → 2048 ≤ length l → length m ≡ length l
+        → m ≡ take (min n (min (length body) (length l))) body ++ drop (min n (min (length body) (length l))) l
+        → Stepped p (held bs ms os (take n m)) call r (held bs′ ms′ os′ l′) → g ≡ givenOf call (r .answer .count)
+        → Carries p bs ms os kind body (record { port = r .port; answer = r .answer; given = g }) bs′ ms′ os′ (l′ ++ drop n m)
+    carried l m l′ bs′ ms′ os′ r g big em lm s eg =
+        let z : Sizes = sizes p bs ms os in
+        let v : State = get p bs ms os in
+        let reply : Reply = step z v call (take n m) .1 in
+        let same : step z v call (take n m) ≡ answeredOf p bs ms os kind body =
+        loaded-step z v call n body l m as-long (omega (arith, at-most)) em lm ∙ ap (answered z v) asked in
+        let long : length (handed reply) ≡ g =
+        handed-count z v (take n m) call ∙ ap (λ (a : Answer). givenOf call (a .count)) (sym (s .answer)) ∙ sym eg in
+        let whole : l′ ++ drop n m ≡ handed reply ++ (drop (length (handed reply)) (take n m) ++ drop n m) =
+        ap (λ (y : List ℕ). y ++ drop n m) (s .buffer) ∙ append-assoc (handed reply) (drop (length (handed reply)) (take n m)) (drop n m) in
+        record {
+          answer = s .answer ∙ ap (λ (y : State × Reply). y .1 .answer) same;
+          given =
+              ap (take g) whole
+              ∙ take-at (handed reply) (drop (length (handed reply)) (take n m) ++ drop n m) g long
+              ∙ ap (λ (y : State × Reply). handed (y .1)) same;
+          upto =
+              omega (arith, long, ap length whole, length-append (handed reply) (drop (length (handed reply)) (take n m) ++ drop n m));
+          now = record { state = s .now .state ∙ ap (λ (y : State × Reply). y .0) same; sizes = s .now .sizes };
+        }
+
+---- record
+
+pub recorded : (p : Port) (bs ms os : List ℕ) (index kind : ℕ) (body l l′ : List ℕ) (c : Carried) (k : ℕ) (bs′ ms′ os′ lent′ : List ℕ)
+    → Carries p bs ms os kind body c bs′ ms′ os′ lent′ → Prints l (lineOf index kind (c .answer) (take (c .given) lent′)) k l′
+    → Records p bs ms os index kind body l (record { port = c .port; length = k }) bs′ ms′ os′ l′
+recorded p bs ms os index kind body l l′ c k bs′ ms′ os′ lent′ h t =
+    record {
+      line =
+          subst (λ (y : List ℕ). Prints l y k l′)
+          (ap₂ (λ (a : Answer) (g : List ℕ). lineOf index kind a g) (h .answer) (h .given)) t;
+      now = h .now;
+    }

@@ -1,0 +1,101 @@
+// Document 01, 'The trace program': one record carried out on a port, and its line.
+ghost use mathlib.Core.Path.{_≡_};
+ghost use mathlib.Core.List.{_++_};
+ghost use Prim.Native.Nat.{_≤_, min};
+ghost use lib.ListN.{length, take, drop};
+ghost use Rattle.trace.specs.Contract.{Carries, Records, givenOf};
+use port::Port;
+use records::Decoded;
+use rules::Answer;
+use rules::Call;
+use rules::Outcome;
+use rules::Refusal;
+
+// The port after a record, the answer, and how many bytes were handed out into the lent buffer.
+pub struct Carried {
+    pub port: Port,
+    pub answer: Answer,
+    pub given: usize,
+}
+
+// The port after a record, and the length of its line.
+pub struct Recorded {
+    pub port: Port,
+    pub length: usize,
+}
+
+// the first n bytes of the body stand first in the buffer
+fn load(lent: &mut [u8], body: &[u8], n: usize)
+    ensures { λ _. ⌜ now (lent .exit) ≡ take (min n (min (length (now (body .entry))) (length (now (lent .entry))))) (now (body .entry)) ++ drop (min n (min (length (now (body .entry))) (length (now (lent .entry))))) (now (lent .entry)) ⌝ }
+{
+    let most = queue::least(body.len(), lent.len());
+    let k = queue::least(n, most);
+    let mut i = 0;
+    while i < k {
+        lent[i] = body[i];
+        i += 1;
+    }
+}
+
+// the bytes that a call hands out, of this count
+fn given_of(call: Call, count: usize) -> usize
+    ensures { λ r. ⌜ r ≡ givenOf call count ⌝ }
+{
+    match call {
+        Call::Set(_) => 0,
+        Call::Receive(_) => 0,
+        Call::Read { .. } => count,
+        Call::Write => 0,
+        Call::Transmit => count,
+        Call::Flush(_) => 0,
+        Call::Cancel => 0,
+        Call::Foreground { .. } => 0,
+        Call::ReadVerdict(_) => 0,
+        Call::WriteVerdict(_) => 0,
+        Call::SettingsVerdict(_) => 0,
+    }
+}
+
+// 'Unknown kinds, wrong lengths and other values are malformed': refusal 2, and the port is not called.
+fn carry(p: Port, bytes: &mut [u8], marks: &mut [u8], out: &mut [u8], kind: usize, body: &[u8], lent: &mut [u8]) -> Carried
+    requires { ⌜ 2048 ≤ length (now lent) ⌝ }
+    ensures { λ r. ⌜ Carries p (now (bytes .entry)) (now (marks .entry)) (now (out .entry)) kind (now (body .entry)) r (now (bytes .exit)) (now (marks .exit)) (now (out .exit)) (now (lent .exit)) ⌝ }
+{
+    let d = records::decode(kind, body);
+    let Decoded::WellFormed { call, lent: n } = d else {
+        return Carried {
+            port: p,
+            answer: Answer {
+                outcome: Outcome::Refused(Refusal::OutOfRange),
+                count: 0,
+            },
+            given: 0,
+        };
+    };
+    load(lent, body, n);
+    let r = discipline::step(p, bytes, marks, out, call, &mut lent[..n]);
+    let port = r.port;
+    let answer = r.answer;
+    let given = given_of(call, answer.count);
+    Carried {
+        port: port,
+        answer: answer,
+        given: given,
+    }
+}
+
+// 'A line each': index, kind, outcome, count, bytes given
+pub fn record(p: Port, bytes: &mut [u8], marks: &mut [u8], out: &mut [u8], index: usize, kind: usize, body: &[u8], line: &mut [u8]) -> Recorded
+    ensures { λ r. ⌜ Records p (now (bytes .entry)) (now (marks .entry)) (now (out .entry)) index kind (now (body .entry)) (now (line .entry)) r (now (bytes .exit)) (now (marks .exit)) (now (out .exit)) (now (line .exit)) ⌝ }
+{
+    let mut lent = [0u8; 2048];
+    let c = carry(p, bytes, marks, out, kind, body, &mut lent);
+    let port = c.port;
+    let answer = c.answer;
+    let given = c.given;
+    let length = records::put_line(line, index, kind, answer, &lent[..given]);
+    Recorded {
+        port: port,
+        length: length,
+    }
+}
