@@ -46,7 +46,7 @@ no-bytes [] le = refl
 no-bytes (b ∷ l) le = absurd (omega arith)
 
 -- a fresh port with any slices is the fresh state
-fresh-state : (bs ms os : List ℕ) → get port.fresh bs ms os ≡ fresh
+pub fresh-state : (bs ms os : List ℕ) → get port.fresh bs ms os ≡ fresh
 unfolding get input.get input.all output.get
 fresh-state bs ms os =
     let none : (l : List ℕ) → heldIn (laid 0 []) l ≡ [] = λ l. no-bytes (heldIn (laid 0 []) l) (omega (arith, held-length (laid 0 []) l)) in

@@ -57,7 +57,15 @@ fn given_of(call: Call, count: usize) -> usize
 }
 
 // 'Unknown kinds, wrong lengths and other values are malformed': refusal 2, and the port is not called.
-fn carry(p: Port, bytes: &mut [u8], marks: &mut [u8], out: &mut [u8], kind: usize, body: &[u8], lent: &mut [u8]) -> Carried
+fn carry(
+    p: Port,
+    bytes: &mut [u8],
+    marks: &mut [u8],
+    out: &mut [u8],
+    kind: usize,
+    body: &[u8],
+    lent: &mut [u8],
+) -> Carried
     requires { ⌜ 2048 ≤ length (now lent) ⌝ }
     ensures { λ r. ⌜ Carries p (now (bytes .entry)) (now (marks .entry)) (now (out .entry)) kind (now (body .entry)) r (now (bytes .exit)) (now (marks .exit)) (now (out .exit)) (now (lent .exit)) ⌝ }
 {
@@ -85,7 +93,16 @@ fn carry(p: Port, bytes: &mut [u8], marks: &mut [u8], out: &mut [u8], kind: usiz
 }
 
 // 'A line each': index, kind, outcome, count, bytes given
-pub fn record(p: Port, bytes: &mut [u8], marks: &mut [u8], out: &mut [u8], index: usize, kind: usize, body: &[u8], line: &mut [u8]) -> Recorded
+pub fn record(
+    p: Port,
+    bytes: &mut [u8],
+    marks: &mut [u8],
+    out: &mut [u8],
+    index: usize,
+    kind: usize,
+    body: &[u8],
+    line: &mut [u8],
+) -> Recorded
     ensures { λ r. ⌜ Records p (now (bytes .entry)) (now (marks .entry)) (now (out .entry)) index kind (now (body .entry)) (now (line .entry)) r (now (bytes .exit)) (now (marks .exit)) (now (out .exit)) (now (line .exit)) ⌝ }
 {
     let mut lent = [0u8; 2048];
