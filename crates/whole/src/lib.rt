@@ -95,9 +95,9 @@ fn next(
 pub fn whole(input: &[u8], dst: &mut [u8]) -> usize
     ensures { λ r. ⌜ Prints (now (dst .entry)) (trace (now (input .entry))) r (now (dst .exit)) ⌝ }
 {
-    let mut bytes = [0u8; 1024];
-    let mut marks = [0u8; 1024];
-    let mut out = [0u8; 2048];
+    let mut bytes = [0u8; Port::INPUT];
+    let mut marks = [0u8; Port::INPUT];
+    let mut out = [0u8; Port::OUTPUT];
     let port = Port::fresh();
     let mut g = Progress {
         port: port,
