@@ -2,7 +2,7 @@
 use Prim.Native.Nat.{ℕ, _≤_, min}
 use native.Mathlib.Omega.{arith}
 use mathlib.Core.Bool.{false}
-use mathlib.Core.Path.{_≡_, refl, sym, ap, ap₂, subst, _∙_}
+use mathlib.Core.Path.{_≡_, refl, ap, ap₂, _∙_}
 use mathlib.Core.List.{List, [], _∷_, reverse}
 use lib.ListN.{length, take, drop}
 use Rattle.queue.specs.Queue.{held as heldIn, laid}
@@ -10,7 +10,7 @@ use Rattle.queue.proofs.Laws.{held-length}
 use Rattle.rules.specs.declared.Group.the-variants.{Nobody}
 use Rattle.rules.specs.declared.Waiting.the-variants.{Idle}
 use Rattle.rules.specs.declared.Answer.{Answer}
-use Rattle.rules.specs.Sizes.{Sizes, State, base}
+use Rattle.rules.specs.Sizes.{Sizes, State}
 use Rattle.rules.specs.Refusals.{Reply, lentAfter}
 use Rattle.rules.specs.Settings.{defaults, fresh}
 use Rattle.rules.specs.Step.{Asked, stepOf}
@@ -19,8 +19,6 @@ use Rattle.output.specs.Contract as output
 use Rattle.port.specs.State.{places, sizes, get}
 use Rattle.port.specs.Contract as port
 use Rattle.port.specs.declared.Port.{Port}
-use Rattle.port.specs.declared.Answered.{Answered}
-use Rattle.discipline.specs.Contract.{Stepped, held}
 use Rattle.discipline.specs.Demand2.{Seen, Makes, shows, Demand2}
 
 -- from any port: what is seen is the rules' run from what the port and its slices are

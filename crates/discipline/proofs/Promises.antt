@@ -1,7 +1,5 @@
 -- No second answer, port, slice or buffer meets the promise of `step`. Assumes nothing.
 use mathlib.Core.Path.{_≡_, sym, _∙_}
-use mathlib.Core.List.{List}
-use Prim.Native.Nat.{ℕ}
 use Rattle.rules.specs.declared.Call.{Call}
 use Rattle.rules.specs.declared.Call.the-variants.{Set, Receive, Read, Write, Transmit, Flush, Cancel, Foreground, ReadVerdict, WriteVerdict, SettingsVerdict}
 use Rattle.port.specs.Contract.{written, transmitted}
@@ -16,7 +14,7 @@ use Rattle.discipline.specs.Contract.{Held, Exact, Stepped, held}
 held-is : (k j : Held) → k .bytes ≡ j .bytes → k .marks ≡ j .marks → k .out ≡ j .out → k .lent ≡ j .lent → k ≡ j
 held-is k j a b c d = λ i. held (a i) (b i) (c i) (d i)
 
-one-exact : (p : Port) (h : Held) (call : Call) (r q : Answered) (k j : Held) → Exact p h call r k → Exact p h call q j → (r ≡ q) × (k ≡ j)
+pub one-exact : (p : Port) (h : Held) (call : Call) (r q : Answered) (k j : Held) → Exact p h call r k → Exact p h call q j → (r ≡ q) × (k ≡ j)
 one-exact p h (Set x) r q k j a b =
     let s = one-set (a .0) (b .0) in (s .0, held-is k j (s .1) (s .2) (a .1 ∙ sym (b .1)) (a .2 ∙ sym (b .2)))
 one-exact p h (Receive e) r q k j a b =

@@ -12,7 +12,7 @@ use Rattle.calling.specs.Contract.{stepOf, Calls, Asks, grouped, cancelled, ans
 use Rattle.changes.specs.Contract.{Sets}
 use Rattle.reads.specs.Contract.{Reads}
 
--- a port, its slices (input bytes, input marks, output) and a buffer
+-- the three slices (input bytes, input marks, output) and the lent buffer
 pub record Held : Type 0 where
   pub bytes : List ℕ
   pub marks : List ℕ

@@ -7,10 +7,10 @@ use Rattle.rules.specs.declared.Answer.{Answer}
 use Rattle.rules.specs.Sizes.{Sizes, State, base}
 use Rattle.rules.specs.Refusals.{Reply, lentAfter}
 use Rattle.rules.specs.Settings.{fresh}
-use Rattle.rules.specs.Step.{Asked, stepOf}
+use Rattle.rules.specs.Step.{Asked, run}
 use Rattle.port.specs.Contract as port
 use Rattle.port.specs.declared.Port.{Port}
-use Rattle.discipline.specs.Contract.{Held, Stepped, held}
+use Rattle.discipline.specs.Contract.{Stepped, held}
 use Rattle.port.specs.declared.Answered.{Answered}
 
 -- What the caller of one call sees: the answer, and the buffer that it lent.
@@ -35,13 +35,17 @@ Makes [] (v ∷ seen) p bs ms os = ⊥
 Makes (a ∷ more) [] p bs ms os = ⊥
 Makes (a ∷ more) (v ∷ seen) p bs ms os = Made p bs ms os a v (Makes more seen)
 
--- what the rules' run shows of each call
-abbrev pub shows : Sizes → State → List Asked → List Seen
-shows z s [] = []
-shows z s (a ∷ more) =
-    record { answer = stepOf z s a .1 .answer; lent = lentAfter (a .lent) (stepOf z s a .1) } ∷ shows z (stepOf z s a .0) more
+-- what the replies to a list of calls show
+abbrev pub seenOf : List Asked → List Reply → List Seen
+seenOf [] rs = []
+seenOf (a ∷ more) [] = []
+seenOf (a ∷ more) (r ∷ rs) = record { answer = r .answer; lent = lentAfter (a .lent) r } ∷ seenOf more rs
 
--- 'Every call .. gets one of the answers of document 01'; the answers are 'exactly those .., call after call from a fresh port'.
+-- what the rules' run shows
+abbrev pub shows : Sizes → State → List Asked → List Seen
+shows z s calls = seenOf calls (run z s calls)
+
+-- The answers and buffers are those of the rules' run, call after call from a fresh port.
 abbrev pub Demand2 : Type 0
 Demand2 =
     (bs ms os : List ℕ) (calls : List Asked) (seen : List Seen) → length bs ≡ 1024 → length ms ≡ 1024 → length os ≡ 2048

@@ -6,7 +6,7 @@ use native.Mathlib.Omega.{arith}
 use mathlib.Core.Path.{_≡_, refl, sym, ap, ap₂, subst, _∙_}
 use mathlib.Core.Bool.{Bool, true, false, _&&_, _||_}
 use mathlib.Core.List.{List, _++_, append-assoc}
-use lib.ListN.{length, take, drop, getD, set, length-append}
+use lib.ListN.{length, take, drop, getD, set, length-append, replicate}
 use lib.Seq.{paste, paste-zero, paste-suc, length-paste, length-take-le, take-at, take-all}
 use lib.Dec.{eqb, ltb}
 use Rattle.rules.specs.declared.Answer.{Answer}
@@ -24,7 +24,8 @@ use Rattle.rules.specs.Output as rule
 use Rattle.rules.specs.Reads as reads
 use Rattle.rules.specs.Verdicts as verdict
 use Rattle.rules.specs.Step.{step, setOn, aReadWaits}
-use Rattle.rules.specs.Trace.{decode, answered, asks, malformed}
+use Rattle.rules.specs.Trace.{decode, answered, asks, wellFormed, malformed}
+use Rattle.rules.specs.Trace as trace
 use Rattle.rules.proofs.OutputLaws.{append-nil}
 use Rattle.port.specs.State.{sizes, get}
 use Rattle.port.specs.declared.Port.{Port}
@@ -33,8 +34,11 @@ use Rattle.records.specs.Lines.{Prints, lineOf}
 use Rattle.records.specs.Records.{Decodes, lentOf, meant, told}
 use Rattle.records.specs.declared.Decoded.{Decoded}
 use Rattle.records.specs.declared.Decoded.the-variants.{WellFormed, Malformed}
-use Rattle.discipline.specs.Contract.{Stepped, held}
-use Rattle.trace.specs.Contract.{answeredOf, givenOf, Carries, Records}
+use Rattle.discipline.specs.Contract.{Held, Exact, Stepped, held}
+use Rattle.discipline.proofs.Promises.{one-exact}
+use Rattle.records.proofs.Promises.{prints-unique}
+use Rattle.trace.specs.Contract.{answeredOf, givenOf, lentFrom, Exactly, Carries, Records}
+use Rattle.trace.specs.declared.Recorded.{Recorded}
 use Rattle.trace.specs.declared.Carried.{Carried}
 use Rattle.trace.proofs.Bounds.{Bounded, bounded}
 
@@ -165,7 +169,7 @@ lentBy Malformed = 0
 
 module _ (p : Port) (bs ms os : List ℕ) (kind : ℕ) (body : List ℕ) (d : Decoded) (h : Decodes kind body d) where
   pub malformed-carried : (l : List ℕ) → d ≡ Malformed
-      → Carries p bs ms os kind body (record { port = p; answer = record { outcome = Refused OutOfRange; count = 0 }; given = 0 }) bs ms os l
+      → Carries p bs ms os kind body l (record { port = p; answer = record { outcome = Refused OutOfRange; count = 0 }; given = 0 }) bs ms os l
   malformed-carried l e =
       let w : malformed ≡ decode kind body = sym (ap (λ (y : Decoded). meant y body) e) ∙ h .means in
       let r : answered (sizes p bs ms os) (get p bs ms os) malformed ≡ answeredOf p bs ms os kind body =
@@ -175,6 +179,8 @@ module _ (p : Port) (bs ms os : List ℕ) (kind : ℕ) (body : List ℕ) (d : De
         given = ap (λ (y : State × Reply). handed (y .1)) r;
         upto = omega arith;
         now = record { state = ap (λ (y : State × Reply). y .0) r; sizes = refl };
+        exact =
+            subst (λ (y : trace.Decoded). Exactly y p bs ms os l body (answeredOf p bs ms os kind body .1 .answer) p bs ms os) w (refl, refl, refl, refl);
       }
 
   module _ (call : Call) (n : ℕ) (e : d ≡ WellFormed call n) where
@@ -187,10 +193,24 @@ module _ (p : Port) (bs ms os : List ℕ) (kind : ℕ) (body : List ℕ) (d : De
     pub at-most : n ≤ 2048
     at-most = omega (arith, as-long, subst Bounded (sym asked) (bounded kind body))
 
+    -- the call as the record asks for it
+    made : (l m l′ bs′ ms′ os′ : List ℕ) (r : Answered) (a : Answer) → m ≡ take (min n (min (length body) (length l))) body ++ drop (min n (min (length body) (length l))) l
+        → r .answer ≡ a → Exact p (held bs ms os (take n m)) call r (held bs′ ms′ os′ l′)
+        → Exactly (decode kind body) p bs ms os l body a (r .port) bs′ ms′ os′
+    made l m l′ bs′ ms′ os′ r a lm ea x =
+        let lent : take n m ≡ lentFrom l (length (lentOf call n body)) body = ap (take n) lm ∙ ap (λ (k : ℕ). lentFrom l k body) as-long in
+        subst (λ (y : trace.Decoded). Exactly y p bs ms os l body a (r .port) bs′ ms′ os′) asked
+        (record {
+          after = l′;
+          exact =
+              subst (λ (y : List ℕ). Exact p (held bs ms os y) call (record { port = r .port; answer = a }) (held bs′ ms′ os′ l′)) lent
+              (subst (λ (y : Answer). Exact p (held bs ms os (take n m)) call (record { port = r .port; answer = y }) (held bs′ ms′ os′ l′)) ea x);
+        })
+
     pub carried : (l m l′ bs′ ms′ os′ : List ℕ) (r : Answered) (g : ℕ) → 2048 ≤ length l → length m ≡ length l
         → m ≡ take (min n (min (length body) (length l))) body ++ drop (min n (min (length body) (length l))) l
         → Stepped p (held bs ms os (take n m)) call r (held bs′ ms′ os′ l′) → g ≡ givenOf call (r .answer .count)
-        → Carries p bs ms os kind body (record { port = r .port; answer = r .answer; given = g }) bs′ ms′ os′ (l′ ++ drop n m)
+        → Carries p bs ms os kind body l (record { port = r .port; answer = r .answer; given = g }) bs′ ms′ os′ (l′ ++ drop n m)
     carried l m l′ bs′ ms′ os′ r g big em lm s eg =
         let z : Sizes = sizes p bs ms os in
         let v : State = get p bs ms os in
@@ -210,12 +230,13 @@ module _ (p : Port) (bs ms os : List ℕ) (kind : ℕ) (body : List ℕ) (d : De
           upto =
               omega (arith, long, ap length whole, length-append (handed reply) (drop (length (handed reply)) (take n m) ++ drop n m));
           now = record { state = s .now .state ∙ ap (λ (y : State × Reply). y .0) same; sizes = s .now .sizes };
+          exact = made l m l′ bs′ ms′ os′ r (answeredOf p bs ms os kind body .1 .answer) lm (s .answer ∙ ap (λ (y : State × Reply). y .1 .answer) same) (s .exact);
         }
 
 ---- record
 
 pub recorded : (p : Port) (bs ms os : List ℕ) (index kind : ℕ) (body l l′ : List ℕ) (c : Carried) (k : ℕ) (bs′ ms′ os′ lent′ : List ℕ)
-    → Carries p bs ms os kind body c bs′ ms′ os′ lent′ → Prints l (lineOf index kind (c .answer) (take (c .given) lent′)) k l′
+    → Carries p bs ms os kind body (replicate 2048 0) c bs′ ms′ os′ lent′ → Prints l (lineOf index kind (c .answer) (take (c .given) lent′)) k l′
     → Records p bs ms os index kind body l (record { port = c .port; length = k }) bs′ ms′ os′ l′
 recorded p bs ms os index kind body l l′ c k bs′ ms′ os′ lent′ h t =
     record {
@@ -223,4 +244,30 @@ recorded p bs ms os index kind body l l′ c k bs′ ms′ os′ lent′ h t =
           subst (λ (y : List ℕ). Prints l y k l′)
           (ap₂ (λ (a : Answer) (g : List ℕ). lineOf index kind a g) (h .answer) (h .given)) t;
       now = h .now;
+      exact = h .exact;
     }
+
+---- No second port, slice or line
+
+one-exactly : (x : trace.Decoded) (p : Port) (bs ms os l body : List ℕ) (a : Answer) (q r : Port) (bs′ ms′ os′ cs ns qs : List ℕ)
+    → Exactly x p bs ms os l body a q bs′ ms′ os′ → Exactly x p bs ms os l body a r cs ns qs → (q ≡ r) × (bs′ ≡ cs) × (ms′ ≡ ns) × (os′ ≡ qs)
+one-exactly (wellFormed y) p bs ms os l body a q r bs′ ms′ os′ cs ns qs h k =
+    let s =
+    one-exact p (held bs ms os (lentFrom l (length (y .lent)) body)) (y .call) (record { port = q; answer = a }) (record { port = r; answer = a })
+    (held bs′ ms′ os′ (h .after)) (held cs ns qs (k .after)) (h .exact) (k .exact) in (
+      ap (λ (z : Answered). z .port) (s .0),
+      ap (λ (z : Held). z .bytes) (s .1),
+      ap (λ (z : Held). z .marks) (s .1),
+      ap (λ (z : Held). z .out) (s .1),
+    )
+one-exactly malformed p bs ms os l body a q r bs′ ms′ os′ cs ns qs h k =
+    (h .0 ∙ sym (k .0), h .1 ∙ sym (k .1), h .2 ∙ sym (k .2), h .3 ∙ sym (k .3))
+
+pub one-record : (p : Port) (bs ms os : List ℕ) (index kind : ℕ) (body l : List ℕ) (r q : Recorded) (bs′ ms′ os′ l′ cs ns qs k : List ℕ)
+    → Records p bs ms os index kind body l r bs′ ms′ os′ l′ → Records p bs ms os index kind body l q cs ns qs k
+    → (r ≡ q) × (bs′ ≡ cs) × (ms′ ≡ ns) × (os′ ≡ qs) × (l′ ≡ k)
+one-record p bs ms os index kind body l r q bs′ ms′ os′ l′ cs ns qs k h j =
+    let s =
+    one-exactly (decode kind body) p bs ms os (replicate 2048 0) body (answeredOf p bs ms os kind body .1 .answer) (r .port) (q .port) bs′ ms′ os′ cs ns qs (h .exact) (j .exact) in
+    let t = prints-unique (r .length) (q .length) l′ k (h .line) (j .line) in
+    (ap₂ (λ (y : Port) (n : ℕ). record { port = y; length = n }) (s .0) (t .0), s .1, s .2, s .3, t .1)

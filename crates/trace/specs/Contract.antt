@@ -1,17 +1,20 @@
 -- What a record promises: the rules' answer to it, the state after it, and its line.
-use Prim.Native.Nat.{ℕ, _≤_}
+use Prim.Native.Nat.{ℕ, _≤_, min}
 use mathlib.Core.Path.{_≡_}
-use mathlib.Core.List.{List}
-use lib.ListN.{length, take}
+use mathlib.Core.List.{List, _++_}
+use lib.ListN.{length, take, drop, replicate}
+use Rattle.rules.specs.declared.Answer.{Answer}
 use Rattle.rules.specs.declared.Call.{Call}
 use Rattle.rules.specs.declared.Call.the-variants.{Set, Receive, Read, Write, Transmit, Flush, Cancel, Foreground, ReadVerdict, WriteVerdict, SettingsVerdict}
 use Rattle.rules.specs.Sizes.{State}
 use Rattle.rules.specs.Refusals.{Reply, handed}
-use Rattle.rules.specs.Trace.{decode, answered, line}
+use Rattle.rules.specs.Trace.{decode, answered, line, wellFormed, malformed}
+use Rattle.rules.specs.Trace as trace
 use Rattle.port.specs.State.{sizes, get}
 use Rattle.port.specs.declared.Port.{Port}
 use Rattle.records.specs.Lines.{Prints}
 use Rattle.calling.specs.Contract.{Now}
+use Rattle.discipline.specs.Contract.{Exact, held}
 use Rattle.trace.specs.declared.Carried.{Carried}
 use Rattle.trace.specs.declared.Recorded.{Recorded}
 
@@ -33,14 +36,32 @@ givenOf (ReadVerdict p) n = 0
 givenOf (WriteVerdict p) n = 0
 givenOf (SettingsVerdict p) n = 0
 
--- The record is carried out: what is handed out stands first in the lent buffer.
-pub record Carries (p : Port) (bs ms os : List ℕ) (kind : ℕ) (body : List ℕ) (r : Carried) (bs′ ms′ os′ lent′ : List ℕ) : Type 0 where
+-- the n bytes lent to a record's call: the first of the body, then those that stood in the buffer l
+abbrev pub lentFrom : List ℕ → ℕ → List ℕ → List ℕ
+lentFrom l n body =
+    take n (take (min n (min (length body) (length l))) body ++ drop (min n (min (length body) (length l))) l)
+
+-- the port and every byte of the slices after the call that a record asks for, with the rules' answer a, and some buffer
+pub record CallMade (p : Port) (bs ms os lent : List ℕ) (call : Call) (a : Answer) (q : Port) (bs′ ms′ os′ : List ℕ) : Type 0 where
+  pub after : List ℕ
+  pub exact : Exact p (held bs ms os lent) call (record { port = q; answer = a }) (held bs′ ms′ os′ after)
+
+-- A malformed record leaves port and slices as they were.
+abbrev pub Exactly : trace.Decoded → Port → List ℕ → List ℕ → List ℕ → List ℕ → List ℕ → Answer → Port → List ℕ → List ℕ → List ℕ → Type 0
+Exactly (wellFormed x) p bs ms os l body a q bs′ ms′ os′ =
+    CallMade p bs ms os (lentFrom l (length (x .lent)) body) (x .call) a q bs′ ms′ os′
+Exactly malformed p bs ms os l body a q bs′ ms′ os′ = (q ≡ p) × (bs′ ≡ bs) × (ms′ ≡ ms) × (os′ ≡ os)
+
+-- The record is carried out with the buffer l: what is handed out stands first in it after.
+pub record Carries (p : Port) (bs ms os : List ℕ) (kind : ℕ) (body l : List ℕ) (r : Carried) (bs′ ms′ os′ lent′ : List ℕ) : Type 0 where
   pub answer : r .answer ≡ answeredOf p bs ms os kind body .1 .answer
   pub given : take (r .given) lent′ ≡ handed (answeredOf p bs ms os kind body .1)
   pub upto : r .given ≤ length lent′
   pub now : Now p bs ms os (answeredOf p bs ms os kind body .0) (r .port) bs′ ms′ os′
+  pub exact : Exactly (decode kind body) p bs ms os l body (answeredOf p bs ms os kind body .1 .answer) (r .port) bs′ ms′ os′
 
--- its line, as much of it as the buffer l holds
+-- its line, as much of it as the buffer l holds; the record is carried out with a buffer of zeros
 pub record Records (p : Port) (bs ms os : List ℕ) (index kind : ℕ) (body l : List ℕ) (r : Recorded) (bs′ ms′ os′ l′ : List ℕ) : Type 0 where
   pub line : Prints l (line index kind (answeredOf p bs ms os kind body .1)) (r .length) l′
   pub now : Now p bs ms os (answeredOf p bs ms os kind body .0) (r .port) bs′ ms′ os′
+  pub exact : Exactly (decode kind body) p bs ms os (replicate 2048 0) body (answeredOf p bs ms os kind body .1 .answer) (r .port) bs′ ms′ os′

@@ -67,7 +67,7 @@ fn carry(
     lent: &mut [u8],
 ) -> Carried
     requires { ⌜ 2048 ≤ length (now lent) ⌝ }
-    ensures { λ r. ⌜ Carries p (now (bytes .entry)) (now (marks .entry)) (now (out .entry)) kind (now (body .entry)) r (now (bytes .exit)) (now (marks .exit)) (now (out .exit)) (now (lent .exit)) ⌝ }
+    ensures { λ r. ⌜ Carries p (now (bytes .entry)) (now (marks .entry)) (now (out .entry)) kind (now (body .entry)) (now (lent .entry)) r (now (bytes .exit)) (now (marks .exit)) (now (out .exit)) (now (lent .exit)) ⌝ }
 {
     let d = records::decode(kind, body);
     let Decoded::WellFormed { call, lent: n } = d else {

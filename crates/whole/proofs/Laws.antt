@@ -248,7 +248,7 @@ pub record-from : (g : Progress) (bs ms os : List ℕ) (kind : ℕ) (body dst : 
     → Records (g .port) bs ms os (g .index) kind body (take (length dst - g .written) (drop (g .written) dst)) q bs′ ms′ os′ m
     → Records (g .port) bs ms os (g .index) kind body (drop (g .written) dst) q bs′ ms′ os′ m
 record-from g bs ms os kind body dst q bs′ ms′ os′ m le h =
-    record { line = from-place (g .written) dst le (line (g .index) kind (answeredOf (g .port) bs ms os kind body .1)) (q .length) m (h .line); now = h .now }
+    record { line = from-place (g .written) dst le (line (g .index) kind (answeredOf (g .port) bs ms os kind body .1)) (q .length) m (h .line); now = h .now; exact = h .exact }
 
 -- the record as the code hands it over
 pub record-as : (g : Progress) (bs ms os input dst : List ℕ) (n kind : ℕ) (q : Recorded) (bs′ ms′ os′ m : List ℕ) → g .written ≤ length dst
