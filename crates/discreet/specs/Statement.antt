@@ -1,0 +1,27 @@
+-- Demand 3 of the port: two callers of `step` on one port and its slices, whose calls differ only in plain bytes received, see the same
+-- answers, and buffers that differ only where a differing byte is delivered. The words are those of secrecy's statement.
+use Prim.Native.Nat.{ℕ}
+use mathlib.Core.Path.{_≡_}
+use mathlib.Core.List.{List}
+use Rattle.rules.specs.declared.Settings.{Settings}
+use Rattle.rules.specs.Step.{Asked}
+use Rattle.secrecy.specs.Statement.{Each, Quiet, MayDiffer, Delivered}
+use Rattle.port.specs.declared.Port.{Port}
+use Rattle.discipline.specs.Demand2.{Seen, Makes}
+
+-- Outcome (a signal, a verdict, a refusal are outcomes) and count are the same; at each place of the buffer the bytes are the same, or
+-- those of one call where the two runs' calls bring two bytes.
+pub record SeenAlike (x : Settings) (one other : List Asked) (v w : Seen) : Type 0 where
+  pub answer : v .answer ≡ w .answer
+  pub lent : Each (Delivered x one other) (v .lent) (w .lent)
+
+abbrev pub LentAlike : Asked → Asked → Type 0
+LentAlike a b = a .lent ≡ b .lent
+
+-- ECHO clear, WERASE disabled, no change of settings; any port, any slices, any calls. What a transmit hands out stands in the buffer, and is
+-- the same: a transmitted byte is no byte that a read delivers.
+abbrev pub Demand3 : Type 0
+Demand3 =
+    (p : Port) (bs ms os : List ℕ) (one other : List Asked) (seen read : List Seen)
+    → Quiet (p .settings) → Each (MayDiffer (p .settings)) one other → Each LentAlike one other
+    → Makes one seen p bs ms os → Makes other read p bs ms os → Each (SeenAlike (p .settings) one other) seen read
