@@ -13,6 +13,7 @@ use Rattle.rules.specs.Refusals.{Reply, says}
 use Rattle.input.specs.Contract as input
 use Rattle.input.proofs.Laws.{fitted-within, fitted-same}
 use Rattle.output.specs.declared.Output.{Output}
+use Rattle.output.specs.Contract as output
 use Rattle.output.proofs.Laws as queued
 use Rattle.port.specs.State.{places, sizes, get}
 use Rattle.port.specs.declared.Port.{Port}
@@ -38,7 +39,7 @@ module _ (bs ms : List ℕ) where
 
 ---- The port with its numbers in range means the same
 
-range-again : (n : ℕ) (o : Output) → queued.inRange n o ≡ queued.inRange n (queued.inRange n o)
+range-again : (n : ℕ) (o : Output) → output.inRange n o ≡ output.inRange n (output.inRange n o)
 range-again n o =
     let m : min (o .queue .len) n ≡ min (min (o .queue .len) n) n = omega arith in
     λ i. record { queue = record { head = sym (mod-mod (o .queue .head) n) i; len = m i }; column = o .column; stopped = o .stopped }

@@ -10,7 +10,7 @@ use Rattle.rules.specs.Sizes.{State}
 use Rattle.rules.specs.Refusals.{Reply}
 use Rattle.rules.specs.Step.{step}
 use Rattle.input.specs.Contract as input
-use Rattle.output.proofs.Laws.{inRange}
+use Rattle.output.specs.Contract.{inRange}
 use Rattle.port.specs.State.{places, sizes, get}
 use Rattle.port.specs.Contract.{refused}
 use Rattle.port.specs.declared.Port.{Port}

@@ -12,10 +12,10 @@ use Rattle.rules.specs.Sizes.{Output as Ruled}
 use Rattle.rules.specs.Output.{queued, queuedWhole, processed}
 use Rattle.rules.specs.Echo.{visible, caret, echoOf, storedEcho, rubout}
 use Rattle.rules.proofs.OutputLaws.{append-nil, queued-none}
-use Rattle.output.specs.Contract.{get, Becomes, Measures, Extends}
+use Rattle.output.specs.Contract.{inRange, get, Becomes, Measures, Extends}
 use Rattle.output.specs.declared.Measure.{Measure}
 use Rattle.output.specs.declared.Output.{Output}
-use Rattle.output.proofs.Laws.{inRange, becomes, stays}
+use Rattle.output.proofs.Laws.{becomes, stays}
 use Rattle.echo.specs.Contract.{echoed, Echoes, ExtendsBy, erasedEcho, killedEcho, bytesOf}
 use Rattle.echo.specs.declared.Seen.{Seen}
 

@@ -10,7 +10,7 @@ use borrow.Author.Tests.{eq-eqb, ne-eqb}
 use Rattle.rules.specs.declared.Settings.{Settings}
 use Rattle.rules.specs.Output.{expand, capped, columnAfter, columnsAfter, processed}
 use Rattle.rules.proofs.OutputLaws.{columns-append, processed-snoc, processed-part}
-use Rattle.output.specs.Contract.{Measures, Extends, Begins, bytesOf}
+use Rattle.output.specs.Contract.{Extends, Begins}
 use Rattle.output.specs.declared.Measure.{Measure}
 use Rattle.output.specs.declared.Output.{Output}
 use native.Mathlib.Nat.{add-zero}

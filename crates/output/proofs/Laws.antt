@@ -1,28 +1,23 @@
 -- Laws of get and put, and how calls compose. Assumes nothing.
-use mathlib.Core.Path.{_≡_, refl, sym, ap, _∙_}
-use mathlib.Core.Bool.{Bool, true, false, cond}
+use mathlib.Core.Path.{_≡_, sym, ap, _∙_}
 use mathlib.Core.List.{List, [], _∷_, _++_}
-use Prim.Native.Nat.{ℕ, suc, _+_, _-_, _%_, _<_, _≤_, min}
+use Prim.Native.Nat.{ℕ, _+_, _%_, _<_, _≤_, min}
 use native.Mathlib.Nat.{mod-mod}
 use native.Mathlib.Omega.{arith}
 use lib.ListN.{length, length-append}
 use borrow.Author.Tests.{le-leb, lt-leb}
 use Rattle.queue.specs.Ring.{stores}
-use Rattle.queue.specs.Queue.{held, fitted, laid, appended, Holds}
+use Rattle.queue.specs.Queue.{held, laid, appended, Holds}
 use Rattle.queue.specs.declared.Queue.{Queue}
 use Rattle.queue.proofs.Rings.{stores-length}
 use Rattle.queue.proofs.Laws.{held-length, held-fitted, held-laid, laid-again, laid-fitted, stored-more, holds-room}
 use Rattle.rules.specs.declared.Settings.{Settings}
 use Rattle.rules.specs.Sizes.{Output as Ruled}
-use Rattle.rules.specs.Output.{columnAfter, columnsAfter, queued, queuedWhole, room}
+use Rattle.rules.specs.Output.{columnAfter, queued, queuedWhole}
 use Rattle.rules.proofs.OutputLaws.{queued-append, queued-none}
-use Rattle.output.specs.Contract.{get, put, Becomes, bytesOf}
+use Rattle.output.specs.Contract.{inRange, get, put, Becomes, bytesOf}
 use Rattle.output.specs.declared.Expansion.{Expansion}
 use Rattle.output.specs.declared.Output.{Output}
-
--- the output with its numbers in range
-abbrev pub inRange : ℕ → Output → Output
-inRange n o = record { queue = fitted n (o .queue); column = o .column; stopped = o .stopped }
 
 pub get-length : (o : Output) (l : List ℕ) → length (get o l .queue) ≡ min (o .queue .len) (length l)
 unfolding get

@@ -8,14 +8,13 @@ use native.Mathlib.Numerals.{add-one}
 use native.Mathlib.Omega.{arith}
 use lib.ListN.{length, getD, take, drop, length-append}
 use lib.Seq.{drop-cons, take-suc, take-all, take-length}
-use lib.Dec.{leb}
 use borrow.Author.Tests.{le-leb, lt-leb}
 use Rattle.rules.specs.declared.Settings.{Settings}
 use Rattle.rules.specs.Sizes.{Output as Ruled}
-use Rattle.rules.specs.Output.{expand, columnAfter, columnsAfter, processed, queued, queuedWhole, written, taken, room, oldest}
+use Rattle.rules.specs.Output.{expand, columnAfter, columnsAfter, processed, queued, queuedWhole, written, taken, oldest}
 use Rattle.rules.specs.Echo.{rubout}
-use Rattle.rules.proofs.OutputLaws.{written-next, queued-append, columns-append}
-use Rattle.output.specs.Contract.{get, put, Becomes, Writes, Sends, Measures, Extends, takes}
+use Rattle.rules.proofs.OutputLaws.{written-next}
+use Rattle.output.specs.Contract.{inRange, get, put, Becomes, Writes, Sends, Measures, Extends, takes}
 use Rattle.output.specs.declared.Output.{Output}
 use Rattle.output.specs.declared.Wrote.{Wrote}
 use Rattle.output.specs.declared.Measure.{Measure}
@@ -23,7 +22,7 @@ use Rattle.queue.specs.Queue.{held, laid, Takes}
 use Rattle.queue.specs.declared.Taken.{Taken}
 use Rattle.queue.specs.declared.Queue.{Queue}
 use Rattle.queue.proofs.Laws.{laid-fitted}
-use Rattle.output.proofs.Laws.{inRange, get-length, full-of, get-range, range-len, range-get, start-run, same-size, get-after, len-after, column-after, len-now, becomes, and-then, via-range}
+use Rattle.output.proofs.Laws.{get-length, full-of, get-range, range-len, range-get, start-run, same-size, get-after, len-after, column-after, len-now, becomes, and-then, via-range}
 
 -- after i bytes of src, from output o in range in slice l: output p and slice m
 pub record SoFar (x : Settings) (o : Output) (l src : List ℕ) (i : ℕ) (p : Output) (m : List ℕ) : Type 0 where

@@ -2,20 +2,24 @@
 -- function promises. On the right of each equation stand values at entry only.
 use Prim.Native.Nat.{ℕ, _+_, _-_, _%_, _<_, min}
 use mathlib.Core.Path.{_≡_}
-use mathlib.Core.Bool.{Bool, true, false}
+use mathlib.Core.Bool.{true, false}
 use mathlib.Core.List.{List, [], _∷_, _++_}
 use lib.ListN.{length, take, drop, replicate}
 use Rattle.queue.specs.Ring.{stores}
-use Rattle.queue.specs.Queue.{held, laid}
+use Rattle.queue.specs.Queue.{held, fitted, laid}
 use Rattle.rules.specs.declared.Settings.{Settings}
 use Rattle.rules.specs.Sizes.{Output as Ruled}
-use Rattle.rules.specs.Output.{columnsAfter, processed, queued, written, taken, oldest}
+use Rattle.rules.specs.Output.{columnsAfter, processed, written, taken, oldest}
 use Rattle.output.specs.declared.Output.{Output}
 use Rattle.output.specs.declared.Expansion.{Expansion}
 use Rattle.output.specs.declared.Expansion.the-variants.{Nothing, Byte, Pair, Spaces}
 use Rattle.output.specs.declared.Measure.{Measure}
 use Rattle.output.specs.declared.Wrote.{Wrote}
 use Rattle.output.specs.declared.Sent.{Sent}
+
+-- the output with its numbers in range of n bytes
+abbrev pub inRange : ℕ → Output → Output
+inRange n o = record { queue = fitted n (o .queue); column = o .column; stopped = o .stopped }
 
 -- any output with any slice
 unfoldable pub get : Output → List ℕ → Ruled

@@ -6,8 +6,8 @@ ghost use Prim.Native.Nat.{_+_, _<_, _≤_, _%_};
 ghost use lib.ListN.{length, replicate};
 ghost use Rattle.rules.specs.Output.{capped, columnAfter, columnsAfter, expand, newline as newlineOf, return as returnOf, queued, queuedWhole, processed};
 ghost use Rattle.rules.specs.Echo.{rubout};
-ghost use Rattle.queue.specs.Queue.{fitted, laid};
-ghost use Rattle.output.specs.Contract.{get, put, Becomes, Writes, Sends, Extends, Begins, bytesOf};
+ghost use Rattle.queue.specs.Queue.{laid};
+ghost use Rattle.output.specs.Contract.{inRange, get, put, Becomes, Writes, Sends, Extends, Begins, bytesOf};
 use queue::Queue;
 use rules::Settings;
 
@@ -219,7 +219,7 @@ impl Output {
     }
 
     pub fn fit(self, n: usize) -> Output
-        ensures { λ r. ⌜ r ≡ record { queue = fitted n (self .queue); column = self .column; stopped = self .stopped } ⌝ }
+        ensures { λ r. ⌜ r ≡ inRange n self ⌝ }
     {
         let q = self.queue;
         let queue = q.fit(n);

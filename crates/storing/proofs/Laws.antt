@@ -34,9 +34,9 @@ and-right true b e = e
 and-right false b e = absurd (false≢true e)
 
 -- an output in range that stays as it is
-pub output-stays : (o : Output) (os : List ℕ) → o ≡ queued.inRange (length os) o → output.Becomes o os (output.get o os) o os
+pub output-stays : (o : Output) (os : List ℕ) → o ≡ output.inRange (length os) o → output.Becomes o os (output.get o os) o os
 output-stays o os e =
-    let b : output.Becomes o os (output.get o os) (queued.inRange (length os) o) os = queued.stays o os in
+    let b : output.Becomes o os (output.get o os) (output.inRange (length os) o) os = queued.stays o os in
     record { output = e ∙ b .output; slice = b .slice }
 
 -- an input in range that stays as it is

@@ -1,7 +1,6 @@
 -- What storing promises: the state of the rules after it, and every byte of the three slices.
-use Prim.Native.Nat.{ℕ, min}
+use Prim.Native.Nat.{ℕ}
 use mathlib.Core.Path.{_≡_}
-use mathlib.Core.Bool.{Bool}
 use mathlib.Core.List.{List}
 use lib.ListN.{length}
 use Rattle.rules.specs.declared.Waiting.{Waiting}
@@ -10,7 +9,6 @@ use Rattle.input.specs.Contract as input
 use Rattle.input.specs.declared.Input.{Input}
 use Rattle.output.specs.Contract as output
 use Rattle.output.specs.declared.Output.{Output}
-use Rattle.output.proofs.Laws.{inRange}
 use Rattle.port.specs.declared.Port.{Port}
 
 -- the port and slices of which the input's have one length
@@ -32,7 +30,7 @@ sizesOf p n m = record { line = p .line; input = n; output = m }
 -- the numbers of both queues are in range
 pub record Ranged (p : Port) (n m : ℕ) : Type 0 where
   pub input : input.Within (p .input) n
-  pub output : p .output ≡ inRange m (p .output)
+  pub output : p .output ≡ output.inRange m (p .output)
 
 -- After the call the port is the state w: input and output laid as they say, the rest as in w.
 pub record Becomes (p : Port) (bs ms os : List ℕ) (w : State) (r : Port) (bs′ ms′ os′ : List ℕ) : Type 0 where
