@@ -1,10 +1,7 @@
-// What every call on a port and its slices begins and ends with.
+// What every call on a port and its slices begins with.
 ghost use mathlib.Core.Path.{_≡_};
 ghost use Rattle.calling.specs.Contract.{ranged};
-use port::Answered;
 use port::Port;
-use rules::Answer;
-use rules::Outcome;
 
 // the same port, its numbers in range of n places of input and m bytes of output
 pub fn in_range(p: Port, n: usize, m: usize) -> Port
@@ -16,17 +13,4 @@ pub fn in_range(p: Port, n: usize, m: usize) -> Port
     let output = o.fit(m);
     let waiting = p.waiting;
     storing::assemble(p, input, output, waiting)
-}
-
-// the port and the answer
-pub fn says(p: Port, outcome: Outcome, count: usize) -> Answered
-    ensures { λ r. ⌜ r ≡ record { port = p; answer = record { outcome = outcome; count = count } } ⌝ }
-{
-    Answered {
-        port: p,
-        answer: Answer {
-            outcome: outcome,
-            count: count,
-        },
-    }
 }

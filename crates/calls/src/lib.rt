@@ -21,15 +21,15 @@ pub fn flush(p: Port, bytes: &[u8], marks: &[u8], out: &[u8], choice: u8) -> Ans
     let n = queue::least(bytes.len(), marks.len());
     let q = calling::in_range(p, n, out.len());
     if choice == 1 {
-        return calling::says(storing::flush_input(q, n, out), Outcome::Ok, 0);
+        return port::says(storing::flush_input(q, n, out), Outcome::Ok, 0);
     }
     if choice == 2 {
-        return calling::says(q.flush_output(out.len()), Outcome::Ok, 0);
+        return port::says(q.flush_output(out.len()), Outcome::Ok, 0);
     }
     if choice == 3 {
-        return calling::says(signalling::flush_both(q, n, out), Outcome::Ok, 0);
+        return port::says(signalling::flush_both(q, n, out), Outcome::Ok, 0);
     }
-    calling::says(p, Outcome::Refused(Refusal::OutOfRange), 0)
+    port::says(p, Outcome::Refused(Refusal::OutOfRange), 0)
 }
 
 fn with_group(p: Port, g: Group) -> Port
@@ -55,10 +55,10 @@ pub fn foreground(p: Port, group: u32, orphaned: bool) -> Answered
     ensures { λ r. ⌜ r ≡ grouped p (stepOf p [] [] [] (Call.Foreground group orphaned) []) ⌝ }
 {
     if verdicts::too_large(group) {
-        return calling::says(p, Outcome::Refused(Refusal::OutOfRange), 0);
+        return port::says(p, Outcome::Refused(Refusal::OutOfRange), 0); // 'a group above 2,147,483,647'
     }
     let g = verdicts::group_of(group, orphaned);
-    calling::says(with_group(p, g), Outcome::Ok, 0)
+    port::says(with_group(p, g), Outcome::Ok, 0)
 }
 
 // 'Cancel ends a waiting read and moves nothing.'
@@ -68,7 +68,7 @@ pub fn cancel(p: Port) -> Answered
     let input = p.input;
     let output = p.output;
     let q = storing::assemble(p, input, output, Waiting::Idle);
-    calling::says(q, Outcome::Ok, 0)
+    port::says(q, Outcome::Ok, 0)
 }
 
 // Refusal 2: 'a group above 2,147,483,647, or a process group of 0 in a verdict'.
@@ -77,12 +77,12 @@ fn judged(p: Port, who: Process, v: Verdict) -> Answered
 {
     let group = who.group;
     if verdicts::too_large(group) {
-        return calling::says(p, Outcome::Refused(Refusal::OutOfRange), 0);
+        return port::says(p, Outcome::Refused(Refusal::OutOfRange), 0);
     }
     if group == 0 {
-        return calling::says(p, Outcome::Refused(Refusal::OutOfRange), 0);
+        return port::says(p, Outcome::Refused(Refusal::OutOfRange), 0);
     }
-    calling::says(p, Outcome::Judged(v), 0)
+    port::says(p, Outcome::Judged(v), 0)
 }
 
 // 'Job control verdicts': a background read

@@ -66,7 +66,7 @@ pub fn set(p: Port, bytes: &mut [u8], marks: &mut [u8], x: Settings) -> Answered
 {
     let w = p.waiting;
     if waiting::a_read_waits(w) {
-        return calling::says(p, Outcome::Refused(Refusal::ReadWaits), 0);
+        return port::says(p, Outcome::Refused(Refusal::ReadWaits), 0);
     }
     if settings::acceptable(x) {
         let n = queue::least(bytes.len(), marks.len());
@@ -76,7 +76,7 @@ pub fn set(p: Port, bytes: &mut [u8], marks: &mut [u8], x: Settings) -> Answered
         let f = i.fit(n);
         let input = change_input(f, &mut bytes[..n], &mut marks[..n], old.icanon, x.icanon);
         let output = change_output(o, old.ixon, x.ixon);
-        return calling::says(with_settings(p, x, input, output), Outcome::Ok, 0);
+        return port::says(with_settings(p, x, input, output), Outcome::Ok, 0);
     }
-    calling::says(p, Outcome::Refused(Refusal::BadSettings), 0)
+    port::says(p, Outcome::Refused(Refusal::BadSettings), 0)
 }

@@ -31,7 +31,7 @@ pub fn receive(p: Port, bytes: &mut [u8], marks: &mut [u8], out: &mut [u8], e: E
     let r = received::received(q, &mut bytes[..n], &mut marks[..n], out, e);
     let port = r.port;
     let outcome = r.outcome;
-    calling::says(port, outcome, bytes_in(e))
+    port::says(port, outcome, bytes_in(e))
 }
 
 pub fn good(p: Port, bytes: &mut [u8], marks: &mut [u8], out: &mut [u8], b: u8) -> Answered

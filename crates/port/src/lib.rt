@@ -157,7 +157,8 @@ fn taken(a: Answered) -> usize
     x.count
 }
 
-fn says(p: Port, outcome: Outcome, count: usize) -> Answered
+// the port and the answer
+pub fn says(p: Port, outcome: Outcome, count: usize) -> Answered
     ensures { λ r. ⌜ r ≡ record { port = p; answer = record { outcome = outcome; count = count } } ⌝ }
 {
     Answered {

@@ -45,11 +45,11 @@ fn finish(p: Port, i: Input, bytes: &[u8], marks: &[u8], dst: &mut [u8]) -> Answ
     if x.icanon {
         let t = reading::read_line(i, bytes, marks, dst);
         let left = t.input;
-        return calling::says(with_read(p, left, Waiting::Idle), Outcome::Ok, t.count);
+        return port::says(with_read(p, left, Waiting::Idle), Outcome::Ok, t.count);
     }
     let t = reading::read_bytes(i, bytes, dst);
     let left = t.input;
-    calling::says(with_read(p, left, Waiting::Idle), Outcome::Ok, t.count)
+    port::says(with_read(p, left, Waiting::Idle), Outcome::Ok, t.count)
 }
 
 // 'Non-blocking takes that at once .. or gives refusal 3 if no byte is stored; canonical, if no line is finished. Otherwise the
@@ -70,7 +70,7 @@ fn ruled(
     let n = dst.len();
     if nonblocking {
         if i.ready == 0 {
-            return calling::says(p, Outcome::Refused(Refusal::Nothing), 0);
+            return port::says(p, Outcome::Refused(Refusal::Nothing), 0);
         }
         return finish(p, i, bytes, marks, dst);
     }
@@ -79,7 +79,7 @@ fn ruled(
     }
     let begun = waiting::begins(x, i.ready, n);
     let waits = waiting::waits(begun, w);
-    calling::says(with_read(p, i, waits), Outcome::Wait, 0)
+    port::says(with_read(p, i, waits), Outcome::Wait, 0)
 }
 
 // 'A read on a hung-up port answers 0 bytes and ends any waiting read; otherwise 4, then length 0 (answers 0, takes nothing),
@@ -98,13 +98,13 @@ fn ordered(
     let w = p.waiting;
     let n = dst.len();
     if p.hung {
-        return calling::says(with_read(p, i, Waiting::Idle), Outcome::Ok, 0);
+        return port::says(with_read(p, i, Waiting::Idle), Outcome::Ok, 0);
     }
     if waiting::clashes(w, nonblocking, n) {
-        return calling::says(p, Outcome::Refused(Refusal::ReadWaits), 0);
+        return port::says(p, Outcome::Refused(Refusal::ReadWaits), 0);
     }
     if n == 0 {
-        return calling::says(with_read(p, i, w), Outcome::Ok, 0);
+        return port::says(with_read(p, i, w), Outcome::Ok, 0);
     }
     ruled(p, i, bytes, marks, dst, nonblocking)
 }

@@ -24,8 +24,10 @@ pub enum Decoded {
     Malformed,
 }
 
-fn two(a: u8, b: u8) -> usize
+// A 2-byte number, 'little-endian'.
+pub fn two(a: u8, b: u8) -> usize
     ensures { λ r. ⌜ r ≡ «two» a b ⌝ }
+    ensures { λ r. ⌜ r < 65536 ⌝ }
 {
     a as usize + 256 * (b as usize)
 }

@@ -119,7 +119,7 @@ module _ (z : Sizes) (s : State) (l : List ℕ) where
   judged-none true v = refl
   judged-none false v = refl
 
-  handed-count : (call : Call) → Counted call (step z s call l .1)
+  pub handed-count : (call : Call) → Counted call (step z s call l .1)
   handed-count (Set x) = set-counted x (aReadWaits (s .waiting)) (acceptable x)
   handed-count (Receive e) = refl
   handed-count (Read nonblocking) =

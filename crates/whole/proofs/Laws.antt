@@ -1,30 +1,21 @@
--- One lemma for each way out of the functions of this crate. Assumes nothing.
-use Prim.Native.Nat.{ℕ, suc, _+_, _-_, _≤_, _<_, min}
-use native.Mathlib.Numerals.{add-one}
+-- What is written so far, and what is still to come. Assumes nothing.
+use Prim.Native.Nat.{ℕ, _+_, _-_, _≤_, _<_, min}
 use native.Mathlib.Omega.{arith}
 use Rattle.queue.proofs.Rings.{lt-or-le}
 use mathlib.Core.Path.{_≡_, refl, sym, ap, ap₂, subst, _∙_}
-use mathlib.Core.Bool.{Bool, true, false, not, cond, true≢false, false≢true}
-use mathlib.Core.List.{List, [], _∷_, _++_, append-assoc}
+use mathlib.Core.List.{List, [], _++_, append-assoc}
 use mathlib.Core.Logic.{⊎-elim}
-use lib.ListN.{length, take, drop, getD, length-append, length-take, length-drop, drop-of-length-le}
-use lib.Seq.{take-at, drop-at, take-all, take-append-le, take-append-add, drop-drop}
+use lib.ListN.{length, take, drop, length-append, length-take, length-drop, drop-of-length-le}
+use lib.Seq.{take-at, drop-at, take-all, take-nil, take-append-le, take-append-add, drop-drop}
 use borrow.Rule.Slice.PartMut.{putMid}
-use Rattle.rules.specs.Sizes.{Sizes, State, base}
-use Rattle.rules.specs.Settings.{fresh}
-use Rattle.rules.specs.Refusals.{Reply}
-use Rattle.rules.specs.Trace.{two, line, cutLine, fullLine, traceFrom, trace}
+use Rattle.rules.specs.Trace.{trace}
 use Rattle.rules.proofs.OutputLaws.{append-nil}
-use Rattle.port.specs.State.{sizes, get}
-use Rattle.port.specs.Contract as port
-use Rattle.port.specs.declared.Port.{Port}
 use Rattle.records.specs.Lines.{Prints}
-use Rattle.discipline.proofs.Demand2.{fresh-state}
-use Rattle.trace.specs.Contract.{answeredOf, Records}
-use Rattle.trace.specs.declared.Recorded.{Recorded}
-use Rattle.whole.specs.Contract.{Within, left, Along, Nexts, stopped}
-use Rattle.whole.specs.declared.Progress.{Progress}
-use Rattle.whole.proofs.Rules.{trace-none, trace-full, trace-short, trace-cut, trace-record, four-bytes}
+use Rattle.stream.specs.declared.Stream.{Stream}
+use Rattle.stream.specs.declared.Fed.{Fed}
+use Rattle.stream.specs.Contract.{future, left, beginning, Feeds}
+use Rattle.stream.proofs.Laws.{at-end}
+use Rattle.stream.proofs.Pieces.{future-begins}
 
 ---- A line more in the buffer
 
@@ -87,146 +78,6 @@ module _ (d₀ p t : List ℕ) where
     omega (arith, h .count, length-drop w (Holding d₀ p), long-holding, length-append p t),
   )
 
----- next
-
-module _ (g : Progress) (bs ms os input dst : List ℕ) (h : Within g (length input) (length dst)) where
-  abbrev z : Sizes
-  z = sizes (g .port) bs ms os
-
-  abbrev s : State
-  s = get (g .port) bs ms os
-
-  abbrev rest : List ℕ
-  rest = drop (g .at) input
-
-  -- what is left, at a port that goes on
-  goes : left z s g input ≡ traceFrom z (65535 - g .index) (g .index) s rest
-  goes = ap (λ (t : Bool). cond t [] (traceFrom z (65535 - g .index) (g .index) s rest)) (h .going)
-
-  -- the end, with a last text
-  stops : (t : List ℕ) (k : ℕ) (m : List ℕ) (r : Progress) → traceFrom z (65535 - g .index) (g .index) s rest ≡ t → Prints (drop (g .written) dst) t k m
-      → g .written + k ≤ length dst → r ≡ stopped g (g .written + k) → Nexts g bs ms os input dst r bs ms os (take (g .written) dst ++ m)
-  stops t k m r et hp le er =
-      subst (λ (y : Progress). Nexts g bs ms os input dst y bs ms os (take (g .written) dst ++ m)) (sym er)
-      (record {
-        along = λ T d₀ a.
-            let p : List ℕ = a .text in
-            let b = printed-behind d₀ p t k m (subst (λ (y : ℕ). Prints (drop y (Holding d₀ p)) t k m) (a .written) (subst (λ (y : List ℕ). Prints (drop (g .written) y) t k m) (a .buffer) hp)) in
-            record {
-              text = p ++ t;
-              buffer = ap₂ (λ (j : ℕ) (y : List ℕ). take j y ++ m) (a .written) (a .buffer) ∙ b .0;
-              written = ap (λ (j : ℕ). j + k) (a .written) ∙ b .1;
-              rest = a .rest ∙ ap (λ (y : List ℕ). p ++ y) (goes ∙ et) ∙ sym (append-nil (p ++ t));
-            };
-        at = h .at;
-        written = le;
-        further = λ f. absurd (true≢false f);
-      })
-
-  -- nothing is left
-  pub next-none : (r : Progress) → length input - g .at ≡ 0 → r ≡ stopped g (g .written) → Nexts g bs ms os input dst r bs ms os dst
-  next-none r e er =
-      subst (λ (y : Progress). Nexts g bs ms os input dst y bs ms os dst) (sym er)
-      (record {
-        along = λ T d₀ a.
-            record {
-              text = a .text;
-              buffer = a .buffer;
-              written = a .written;
-              rest =
-                  a .rest
-                  ∙ ap (λ (y : List ℕ). a .text ++ y)
-                  (goes ∙ trace-none z (g .index) s (65535 - g .index) rest (length-drop (g .at) input ∙ e));
-            };
-        at = h .at;
-        written = h .written;
-        further = λ f. absurd (true≢false f);
-      })
-
-  -- how much a last text takes
-  fits : (t : List ℕ) (k : ℕ) (m : List ℕ) → Prints (drop (g .written) dst) t k m → g .written + k ≤ length dst
-  fits t k m hp = omega (arith, hp .count, length-drop (g .written) dst, h .written)
-
-  some : (length input - g .at ≡ 0 → ⊥) → length rest ≡ 0 → ⊥
-  some ne e = ne (sym (length-drop (g .at) input) ∙ e)
-
-  pub next-full : (k : ℕ) (m : List ℕ) (r : Progress) → (length input - g .at ≡ 0 → ⊥) → 65535 ≤ g .index → Prints (drop (g .written) dst) (fullLine (g .index)) k m
-      → r ≡ stopped g (g .written + k) → Nexts g bs ms os input dst r bs ms os (take (g .written) dst ++ m)
-  next-full k m r ne le hp er =
-      stops (fullLine (g .index)) k m r (trace-full z (g .index) s (65535 - g .index) rest (omega arith) (some ne)) hp (fits (fullLine (g .index)) k m hp) er
-
-  more : g .index < 65535 → 65535 - g .index ≡ suc (65535 - (g .index + 1))
-  more lt = omega arith
-
-  pub next-short : (k : ℕ) (m : List ℕ) (r : Progress) → (length input - g .at ≡ 0 → ⊥) → g .index < 65535 → length input - g .at < 4
-      → Prints (drop (g .written) dst) (cutLine (g .index)) k m → r ≡ stopped g (g .written + k) → Nexts g bs ms os input dst r bs ms os (take (g .written) dst ++ m)
-  next-short k m r ne lt short hp er =
-      stops (cutLine (g .index)) k m r
-      (ap (λ (j : ℕ). traceFrom z j (g .index) s rest) (more lt) ∙ trace-short z (g .index) s (65535 - (g .index + 1)) rest (some ne) (omega (arith, length-drop (g .at) input)))
-      hp (fits (cutLine (g .index)) k m hp) er
-
-  ---- A whole header
-
-  module _ (lt : g .index < 65535) (four : 4 ≤ length input - g .at) where
-    abbrev a : ℕ
-    a = getD input (g .at) 0
-
-    abbrev b : ℕ
-    b = getD input (g .at + 1) 0
-
-    abbrev c : ℕ
-    c = getD input (g .at + 2) 0
-
-    abbrev d : ℕ
-    d = getD input (g .at + 3) 0
-
-    abbrev l : List ℕ
-    l = drop (g .at + 4) input
-
-    header : traceFrom z (65535 - g .index) (g .index) s rest ≡ traceFrom z (suc (65535 - (g .index + 1))) (g .index) s (a ∷ b ∷ c ∷ d ∷ l)
-    header = ap₂ (λ (j : ℕ) (y : List ℕ). traceFrom z j (g .index) s y) (more lt) (four-bytes (g .at) input (omega arith))
-
-    long : length l ≡ length input - g .at - 4
-    long = length-drop (g .at + 4) input ∙ omega arith
-
-    pub next-cut : (n k : ℕ) (m : List ℕ) (r : Progress) → n ≡ two a b → length input - g .at - 4 < n → Prints (drop (g .written) dst) (cutLine (g .index)) k m
-        → r ≡ stopped g (g .written + k) → Nexts g bs ms os input dst r bs ms os (take (g .written) dst ++ m)
-    next-cut n k m r en less hp er =
-        stops (cutLine (g .index)) k m r (header ∙ trace-cut z (g .index) s (65535 - (g .index + 1)) a b c d l (omega (arith, long, en)))
-        hp (fits (cutLine (g .index)) k m hp) er
-
-    -- a whole record
-    pub next-record : (n kind : ℕ) (q : Recorded) (m bs′ ms′ os′ : List ℕ) → n ≡ two a b → kind ≡ two c d → n ≤ length input - g .at - 4
-        → Records (g .port) bs ms os (g .index) kind (take n l) (drop (g .written) dst) q bs′ ms′ os′ m
-        → Nexts g bs ms os input dst (record { port = q .port; index = g .index + 1; at = g .at + 4 + n; written = g .written + q .length; done = false }) bs′ ms′ os′ (take (g .written) dst ++ m)
-    next-record n kind q m bs′ ms′ os′ en ek le hr =
-        let v : State × Reply = answeredOf (g .port) bs ms os kind (take n l) in
-        let t : List ℕ = line (g .index) kind (v .1) in
-        let later : List ℕ = traceFrom z (65535 - (g .index + 1)) (g .index + 1) (v .0) (drop (g .at + 4 + n) input) in
-        let step : traceFrom z (65535 - g .index) (g .index) s rest ≡ t ++ later =
-        header
-        ∙ trace-record z (g .index) s (65535 - (g .index + 1)) a b c d l (omega (arith, long, en))
-        ∙ ap₂ (λ (j i : ℕ). line (g .index) i (answeredOf (g .port) bs ms os i (take j l) .1) ++ traceFrom z (65535 - (g .index + 1)) (suc (g .index)) (answeredOf (g .port) bs ms os i (take j l) .0) (drop j l)) (sym en) (sym ek)
-        ∙ ap₂ (λ (i : ℕ) (y : List ℕ). t ++ traceFrom z (65535 - (g .index + 1)) i (v .0) y) (sym (add-one (g .index))) (drop-drop n (g .at + 4) input) in
-        record {
-          along = λ T d₀ al.
-              let p : List ℕ = al .text in
-              let pr = printed-behind d₀ p t (q .length) m (subst (λ (y : ℕ). Prints (drop y (Holding d₀ p)) t (q .length) m) (al .written) (subst (λ (y : List ℕ). Prints (drop (g .written) y) t (q .length) m) (al .buffer) (hr .line))) in
-              record {
-                text = p ++ t;
-                buffer = ap₂ (λ (j : ℕ) (y : List ℕ). take j y ++ m) (al .written) (al .buffer) ∙ pr .0;
-                written = ap (λ (j : ℕ). j + q .length) (al .written) ∙ pr .1;
-                rest =
-                    al .rest
-                    ∙ ap (λ (y : List ℕ). p ++ y) (goes ∙ step)
-                    ∙ sym (append-assoc p t later)
-                    ∙ ap₂ (λ (y : Sizes) (x : State). (p ++ t) ++ traceFrom y (65535 - (g .index + 1)) (g .index + 1) x (drop (g .at + 4 + n) input)) (sym (hr .now .sizes)) (sym (hr .now .state));
-              };
-          at = omega arith;
-          written = fits t (q .length) m (hr .line);
-          further = λ f. omega arith;
-        }
-
 ---- The buffer from a place on
 
 module _ (w : ℕ) (dst : List ℕ) (le : w ≤ length dst) where
@@ -244,111 +95,87 @@ module _ (w : ℕ) (dst : List ℕ) (le : w ≤ length dst) where
   pub written-fits : (t : List ℕ) (k : ℕ) (m : List ℕ) → Prints (take (length dst - w) (drop w dst)) t k m → w + k ≤ length dst
   written-fits t k m h = omega (arith, from-place t k m h .count, length-drop w dst)
 
-pub record-from : (g : Progress) (bs ms os : List ℕ) (kind : ℕ) (body dst : List ℕ) (q : Recorded) (bs′ ms′ os′ m : List ℕ) → g .written ≤ length dst
-    → Records (g .port) bs ms os (g .index) kind body (take (length dst - g .written) (drop (g .written) dst)) q bs′ ms′ os′ m
-    → Records (g .port) bs ms os (g .index) kind body (drop (g .written) dst) q bs′ ms′ os′ m
-record-from g bs ms os kind body dst q bs′ ms′ os′ m le h =
-    record { line = from-place (g .written) dst le (line (g .index) kind (answeredOf (g .port) bs ms os kind body .1)) (q .length) m (h .line); now = h .now; exact = h .exact }
-
--- the record as the code hands it over
-pub record-as : (g : Progress) (bs ms os input dst : List ℕ) (n kind : ℕ) (q : Recorded) (bs′ ms′ os′ m : List ℕ) → g .written ≤ length dst
-    → Records (g .port) bs ms os (g .index) kind (take (g .at + 4 + n - (g .at + 4)) (drop (g .at + 4) input)) (take (length dst - g .written) (drop (g .written) dst)) q bs′ ms′ os′ m
-    → Records (g .port) bs ms os (g .index) kind (take n (drop (g .at + 4) input)) (drop (g .written) dst) q bs′ ms′ os′ m
-record-as g bs ms os input dst n kind q bs′ ms′ os′ m le h =
-    let e : g .at + 4 + n - (g .at + 4) ≡ n = omega arith in
-    record-from g bs ms os kind (take n (drop (g .at + 4) input)) dst q bs′ ms′ os′ m le
-    (subst (λ (k : ℕ). Records (g .port) bs ms os (g .index) kind (take k (drop (g .at + 4) input)) (take (length dst - g .written) (drop (g .written) dst)) q bs′ ms′ os′ m) e h)
-
-pub record-fits : (g : Progress) (bs ms os : List ℕ) (kind : ℕ) (body dst : List ℕ) (q : Recorded) (bs′ ms′ os′ m : List ℕ) → g .written ≤ length dst
-    → Records (g .port) bs ms os (g .index) kind body (take (length dst - g .written) (drop (g .written) dst)) q bs′ ms′ os′ m
-    → g .written + q .length ≤ length dst
-record-fits g bs ms os kind body dst q bs′ ms′ os′ m le h =
-    written-fits (g .written) dst le (line (g .index) kind (answeredOf (g .port) bs ms os kind body .1)) (q .length) m (h .line)
-
 ---- whole
 
--- while the records are answered in turn
-pub record Running (input d₀ bs ms os dst : List ℕ) (g : Progress) : Type 0 where
-  pub along : Along g bs ms os input dst (trace input) d₀
-  pub at : g .at ≤ length input
-  pub written : g .written ≤ length dst
-  pub size : length dst ≡ length d₀
+-- while the input is fed: a text is written into the buffer that held d₀, as much of it as it holds; the rest is what is printed from here on
+pub record Running (input d₀ bs ms os kept dst : List ℕ) (s : Stream) (at w : ℕ) : Type 0 where
+  pub text : List ℕ
+  pub buffer : dst ≡ Holding d₀ text
+  pub written : w ≡ min (length text) (length d₀)
+  pub rest : trace input ≡ text ++ future s bs ms os kept (drop at input)
+  pub upto : at ≤ length input
   pub bytes : length bs ≡ 1024
   pub marks : length ms ≡ 1024
   pub out : length os ≡ 2048
 
-take-none : (n : ℕ) → take {A = ℕ} n [] ≡ []
-take-none n = take-all n [] (omega arith)
-
-pub running-begins : (input dst bs ms os : List ℕ) (p : Port) → p ≡ port.fresh → length bs ≡ 1024 → length ms ≡ 1024 → length os ≡ 2048
-    → Running input dst bs ms os dst (record { port = p; index = 0; at = 0; written = 0; done = false })
-running-begins input dst bs ms os p ep eb em eo =
-    let z : sizes p bs ms os ≡ base =
-    ap (λ (y : Port). sizes y bs ms os) ep ∙ ap₂ (λ (a b : ℕ). record { line = 254; input = a; output = b }) (ap₂ min eb em) eo in
-    let s : get p bs ms os ≡ fresh = ap (λ (y : Port). get y bs ms os) ep ∙ fresh-state bs ms os in
+pub running-begins : (input d₀ bs ms os kept : List ℕ) (s : Stream) → s ≡ beginning → length bs ≡ 1024 → length ms ≡ 1024 → length os ≡ 2048
+    → Running input d₀ bs ms os kept d₀ s 0 0
+running-begins input d₀ bs ms os kept s e eb em eo =
     record {
-      along =
-          record {
-            text = [];
-            buffer = sym (ap (λ (y : List ℕ). y ++ dst) (take-none (length dst)));
-            written = omega arith;
-            rest = sym (ap₂ (λ (y : Sizes) (x : State). traceFrom y 65535 0 x input) z s);
-          };
-      at = omega arith;
+      text = [];
+      buffer = sym (ap (λ (y : List ℕ). y ++ d₀) (take-nil (length d₀)));
       written = omega arith;
-      size = refl;
+      rest = sym (ap (λ (y : Stream). future y bs ms os kept input) e ∙ future-begins bs ms os kept input eb em eo);
+      upto = omega arith;
       bytes = eb;
       marks = em;
       out = eo;
     }
 
-module _ (input d₀ bs ms os dst : List ℕ) (g : Progress) (h : Running input d₀ bs ms os dst g) where
-  pub running-within : g .done ≡ false → Within g (length input) (length dst)
-  running-within e = record { at = h .at; written = h .written; going = e }
+module _ (input d₀ bs ms os kept dst : List ℕ) (s : Stream) (at w : ℕ) (h : Running input d₀ bs ms os kept dst s at w) where
+  pub running-size : length dst ≡ length d₀
+  running-size = ap length (h .buffer) ∙ long-holding d₀ (h .text) []
 
-  pub running-next : (r : Progress) (bs′ ms′ os′ dst′ : List ℕ) → Nexts g bs ms os input dst r bs′ ms′ os′ dst′ → length dst′ ≡ length dst
-      → length bs′ ≡ length bs → length ms′ ≡ length ms → length os′ ≡ length os → Running input d₀ bs′ ms′ os′ dst′ r
-  running-next r bs′ ms′ os′ dst′ n ed eb em eo =
+  pub running-room : w ≤ length dst
+  running-room = omega (arith, h .written, running-size)
+
+  -- a text more, written behind
+  behind : (t : List ℕ) (k : ℕ) (m : List ℕ) → Prints (drop w dst) t k m → (take w dst ++ m ≡ Holding d₀ (h .text ++ t)) × (w + k ≡ min (length (h .text ++ t)) (length d₀))
+  behind t k m p =
+      let b =
+      printed-behind d₀ (h .text) t k m (subst (λ (y : ℕ). Prints (drop y (Holding d₀ (h .text))) t k m) (h .written) (subst (λ (y : List ℕ). Prints (drop w y) t k m) (h .buffer) p)) in (
+        ap₂ (λ (j : ℕ) (y : List ℕ). take j y ++ m) (h .written) (h .buffer) ∙ b .0,
+        ap (λ (j : ℕ). j + k) (h .written) ∙ b .1,
+      )
+
+  pub running-next : (r : Fed) (bs′ ms′ os′ kept′ m : List ℕ) → at < length input → length bs′ ≡ length bs → length ms′ ≡ length ms → length os′ ≡ length os
+      → Feeds s bs ms os kept (take (length input - at) (drop at input)) (take (length dst - w) (drop w dst)) r bs′ ms′ os′ kept′ m
+      → Running input d₀ bs′ ms′ os′ kept′ (putMid w (length dst - w) dst m) (r .stream) (at + r .used) (w + r .length)
+      × (length input - (at + r .used) < length input - at)
+  running-next r bs′ ms′ os′ kept′ m lt eb em eo f =
+      let all : take (length input - at) (drop at input) ≡ drop at input = take-all (length input - at) (drop at input) (omega (arith, length-drop at input)) in
+      let g : Feeds s bs ms os kept (drop at input) (take (length dst - w) (drop w dst)) r bs′ ms′ os′ kept′ m =
+      subst (λ (y : List ℕ). Feeds s bs ms os kept y (take (length dst - w) (drop w dst)) r bs′ ms′ os′ kept′ m) all f in
+      let b = behind (g .text) (r .length) m (from-place w dst running-room (g .text) (r .length) m (g .printed)) in (
+        record {
+          text = h .text ++ g .text;
+          buffer = laid-back w dst running-room m ∙ b .0;
+          written = b .1;
+          rest =
+              h .rest
+              ∙ ap (λ (y : List ℕ). h .text ++ future s bs ms os kept y) (sym (append-nil (drop at input)))
+              ∙ ap (λ (y : List ℕ). h .text ++ y) (g .along [])
+              ∙ sym (append-assoc (h .text) (g .text) (future (r .stream) bs′ ms′ os′ kept′ (drop (r .used) (drop at input) ++ [])))
+              ∙ ap (λ (y : List ℕ). (h .text ++ g .text) ++ future (r .stream) bs′ ms′ os′ kept′ y) (append-nil (drop (r .used) (drop at input)) ∙ drop-drop (r .used) at input);
+          upto = omega (arith, g .used, length-drop at input);
+          bytes = eb ∙ h .bytes;
+          marks = em ∙ h .marks;
+          out = eo ∙ h .out;
+        },
+        omega (arith, g .further (omega (arith, length-drop at input)), g .used, length-drop at input),
+      )
+
+  pub running-done : (k : ℕ) (m : List ℕ) → length kept ≡ 517 → length input ≤ at → Prints (take (length dst - w) (drop w dst)) (left s kept) k m
+      → Prints d₀ (trace input) (w + k) (putMid w (length dst - w) dst m)
+  running-done k m e le p =
+      let b = behind (left s kept) k m (from-place w dst running-room (left s kept) k m p) in
+      let all : trace input ≡ h .text ++ left s kept =
+      h .rest ∙ ap (λ (y : List ℕ). h .text ++ y) (ap (λ (y : List ℕ). future s bs ms os kept y) (none-behind at input le) ∙ at-end s bs ms os kept e) in
       record {
-        along = n .along (trace input) d₀ (h .along);
-        at = n .at;
-        written = subst (λ (k : ℕ). r .written ≤ k) (sym ed) (n .written);
-        size = ed ∙ h .size;
-        bytes = eb ∙ h .bytes;
-        marks = em ∙ h .marks;
-        out = eo ∙ h .out;
+        count = b .1 ∙ ap (λ (y : List ℕ). min (length y) (length d₀)) (sym all);
+        buffer = laid-back w dst running-room m ∙ b .0 ∙ ap (λ (y : List ℕ). Holding d₀ y) (sym all);
       }
 
-  pub running-done : g .done ≡ true → Prints d₀ (trace input) (g .written) dst
-  running-done e =
-      let a = h .along in
-      let all : a .text ≡ trace input =
-      sym
-      (a .rest
-      ∙ ap (λ (t : Bool). a .text ++ cond t [] (traceFrom (sizes (g .port) bs ms os) (65535 - g .index) (g .index) (get (g .port) bs ms os) (drop (g .at) input))) e
-      ∙ append-nil (a .text)) in
-      record {
-        count = a .written ∙ ap (λ (y : List ℕ). min (length y) (length d₀)) all;
-        buffer = a .buffer ∙ ap (λ (y : List ℕ). take (length d₀) y ++ drop (length y) d₀) all;
-      }
-
--- how many turns are left at most
-abbrev pub turns : Bool → ℕ → ℕ → ℕ
-turns true n at = 0
-turns false n at = suc (n - at)
-
-pub fewer-turns : (g r : Progress) (n : ℕ) → g .done ≡ false → r .at ≤ n → (r .done ≡ false → g .at < r .at) → turns (r .done) n (r .at) < turns (g .done) n (g .at)
-fewer-turns g r n e le f = subst (λ (t : Bool). turns (r .done) n (r .at) < turns t n (g .at)) (sym e) (by (r .done) refl)
-  where
-    by : (t : Bool) → r .done ≡ t → turns t n (r .at) < suc (n - g .at)
-    by true et = omega arith
-    by false et = omega (arith, f et)
-
--- the loop's test
-pub goes-on : (t : Bool) → not t ≡ true → t ≡ false
-goes-on true e = absurd (false≢true e)
-goes-on false e = refl
-
-pub is-over : (t : Bool) → not t ≡ false → t ≡ true
-is-over true e = refl
-is-over false e = absurd (true≢false e)
+-- what holds a text is as long as before
+pub printed-long : (l t : List ℕ) (k : ℕ) (m : List ℕ) → Prints l t k m → length m ≡ length l
+printed-long l t k m h = ap length (h .buffer) ∙ long-holding l t []

@@ -5,7 +5,7 @@ use Rattle.calls.proofs.cancel.Statement.{statement}
 use Rattle.calls.proofs.cancel.Tie as tie
 use Rattle.calls.proofs.cancel.Reads as reads
 use Rattle.calls.proofs.cancel.Lts as lts
-use Rattle.calling.proofs.says.Reads as says-reads
+use Rattle.port.proofs.says.Reads as says-reads
 use Rattle.storing.proofs.assemble.Reads as assemble-reads
 
 assemble-requires : tie.Need-assemble-requires

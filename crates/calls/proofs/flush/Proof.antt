@@ -7,7 +7,7 @@ use Rattle.calls.proofs.flush.Tie as tie
 use Rattle.calls.proofs.flush.Reads as reads
 use Rattle.calls.proofs.flush.Lts as lts
 use Rattle.calling.proofs.in_range.Reads as in-range-reads
-use Rattle.calling.proofs.says.Reads as says-reads
+use Rattle.port.proofs.says.Reads as says-reads
 use Rattle.port.proofs.Port.flush_output.Reads as flush-output-reads
 use Rattle.queue.proofs.least.Reads as least-reads
 use Rattle.signalling.proofs.flush_both.Reads as flush-both-reads

@@ -5,7 +5,7 @@ use Rattle.calls.proofs.foreground.Statement.{statement}
 use Rattle.calls.proofs.foreground.Tie as tie
 use Rattle.calls.proofs.foreground.Reads as reads
 use Rattle.calls.proofs.foreground.Lts as lts
-use Rattle.calling.proofs.says.Reads as says-reads
+use Rattle.port.proofs.says.Reads as says-reads
 use Rattle.calls.proofs.with_group.Reads as with-group-reads
 use Rattle.verdicts.proofs.group_of.Reads as group-of-reads
 use Rattle.verdicts.proofs.too_large.Reads as too-large-reads

@@ -5,7 +5,7 @@ use Rattle.calls.proofs.judged.Statement.{statement}
 use Rattle.calls.proofs.judged.Tie as tie
 use Rattle.calls.proofs.judged.Reads as reads
 use Rattle.calls.proofs.judged.Lts as lts
-use Rattle.calling.proofs.says.Reads as says-reads
+use Rattle.port.proofs.says.Reads as says-reads
 use Rattle.verdicts.proofs.too_large.Reads as too-large-reads
 
 too-large-requires : tie.Need-too-large-requires

@@ -8,7 +8,7 @@ use Rattle.changes.proofs.set.Statement.{statement}
 use Rattle.changes.proofs.set.Tie as tie
 use Rattle.changes.proofs.set.Reads as reads
 use Rattle.changes.proofs.set.Lts as lts
-use Rattle.calling.proofs.says.Reads as says-reads
+use Rattle.port.proofs.says.Reads as says-reads
 use Rattle.changes.proofs.change_input.Reads as change-input-reads
 use Rattle.changes.proofs.change_output.Reads as change-output-reads
 use Rattle.changes.proofs.with_settings.Reads as with-settings-reads

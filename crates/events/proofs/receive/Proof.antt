@@ -11,7 +11,7 @@ use Rattle.events.proofs.receive.Reads as reads
 use Rattle.events.proofs.receive.Lts as lts
 use Rattle.events.proofs.bytes_in.Reads as bytes-in-reads
 use Rattle.calling.proofs.in_range.Reads as in-range-reads
-use Rattle.calling.proofs.says.Reads as says-reads
+use Rattle.port.proofs.says.Reads as says-reads
 use Rattle.queue.proofs.least.Reads as least-reads
 use Rattle.received.proofs.received.Reads as received-reads
 

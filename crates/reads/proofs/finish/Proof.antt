@@ -5,7 +5,7 @@ use Rattle.reads.proofs.finish.Statement.{statement}
 use Rattle.reads.proofs.finish.Tie as tie
 use Rattle.reads.proofs.finish.Reads as reads
 use Rattle.reads.proofs.finish.Lts as lts
-use Rattle.calling.proofs.says.Reads as says-reads
+use Rattle.port.proofs.says.Reads as says-reads
 use Rattle.reading.proofs.read_bytes.Reads as read-bytes-reads
 use Rattle.reading.proofs.read_line.Reads as read-line-reads
 use Rattle.reads.proofs.with_read.Reads as with-read-reads

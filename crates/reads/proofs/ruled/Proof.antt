@@ -5,7 +5,7 @@ use Rattle.reads.proofs.ruled.Statement.{statement}
 use Rattle.reads.proofs.ruled.Tie as tie
 use Rattle.reads.proofs.ruled.Reads as reads
 use Rattle.reads.proofs.ruled.Lts as lts
-use Rattle.calling.proofs.says.Reads as says-reads
+use Rattle.port.proofs.says.Reads as says-reads
 use Rattle.reads.proofs.finds.Reads as finds-reads
 use Rattle.reads.proofs.finish.Reads as finish-reads
 use Rattle.reads.proofs.with_read.Reads as with-read-reads

@@ -1,0 +1,4 @@
+pub mod Theorem
+pub mod Every
+pub mod Examples
+pub mod Program

@@ -1,0 +1,5 @@
+pub mod Rules
+pub mod Keeping
+pub mod Lengths
+pub mod Laws
+pub mod Pieces

@@ -1,0 +1,20 @@
+-- `stream::Stream/start` meets its contract. Assumes nothing.
+use Rattle.stream.specs.declared.Stream.{Stream}
+use mathlib.Core.Bool.{false}
+use Rattle.port.specs.declared.Port.{Port}
+use mathlib.Core.Path.{ap}
+use borrow.Author.Needs.{needs}
+use Rattle.stream.proofs.Stream.start.Statement.{statement}
+use Rattle.stream.proofs.Stream.start.Tie as tie
+use Rattle.stream.proofs.Stream.start.Reads as reads
+use Rattle.stream.proofs.Stream.start.Lts as lts
+use Rattle.port.proofs.Port.fresh.Reads as fresh-reads
+
+fresh-requires : tie.Need-fresh-requires
+fresh-requires c κs = search needs
+
+returns : tie.Need-returns
+returns c = ap {B = Stream} (λ (p : Port). record { port = p; index = 0; have = 0; done = false }) (c .fresh .ensures)
+
+pub start-spec : {M : Type 1} → statement M
+start-spec = tie.close (tie.spec fresh-requires returns)

@@ -1,0 +1,54 @@
+// The trace program: records from standard input, a line each to standard output as soon as the record is complete. What is
+// written is decided in `stream`.
+ghost use Rattle.stream.specs.Pieces.{Passes};
+use libc::STDIN_FILENO;
+use libc::STDOUT_FILENO;
+use port::Port;
+use stream::Stream;
+
+// A piece of the input is fed, and each line written.
+fn pass(
+    g: Stream,
+    bytes: &mut [u8],
+    marks: &mut [u8],
+    out: &mut [u8],
+    kept: &mut [u8; Stream::KEPT],
+    piece: &[u8],
+) -> Stream
+    ensures { λ r. ⌜ Passes g (now (bytes .entry)) (now (marks .entry)) (now (out .entry)) (now (kept .entry)) (now (piece .entry)) r (now (bytes .exit)) (now (marks .exit)) (now (out .exit)) (now (kept .exit)) ⌝ }
+{
+    let mut line = [0u8; Stream::LINE];
+    let mut s = g;
+    let mut at = 0;
+    while at < piece.len() {
+        let f = stream::feed(s, bytes, marks, out, kept, &piece[at..], &mut line);
+        let n = f.length;
+        io::write_all(STDOUT_FILENO, &line[..n]);
+        s = f.stream;
+        at += f.used;
+    }
+    s
+}
+
+// A proved loop has to end, and nothing says that the input does: the turns are counted down from a number that no run uses up.
+fn main() {
+    let mut bytes = [0u8; Port::INPUT];
+    let mut marks = [0u8; Port::INPUT];
+    let mut out = [0u8; Port::OUTPUT];
+    let mut kept = [0u8; Stream::KEPT];
+    let mut buf = [0u8; 65536];
+    let mut s = Stream::start();
+    let mut turns = u64::MAX;
+    while turns > 0 {
+        let got = libc::read(STDIN_FILENO, &mut buf);
+        let n = io::count(got, &buf);
+        if n == 0 {
+            break;
+        }
+        s = pass(s, &mut bytes, &mut marks, &mut out, &mut kept, &buf[..n]);
+        turns -= 1;
+    }
+    let mut line = [0u8; Stream::LINE];
+    let n = stream::finish(s, &kept, &mut line);
+    io::write_all(STDOUT_FILENO, &line[..n]);
+}
