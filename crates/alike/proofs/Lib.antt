@@ -1,3 +1,4 @@
+pub mod Given
 pub mod Theorem
 pub mod Every
 pub mod Examples

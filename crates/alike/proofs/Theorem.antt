@@ -15,6 +15,7 @@ use Rattle.rules.specs.Trace.{Decoded, wellFormed, malformed, aRecord, bodyOf, 
 use Rattle.secrecy.specs.Statement.{Each, none, more, Quiet, MayDiffer, Brings, Delivered, equal, Alike}
 use Rattle.secrecy.proofs.Theorem.{secrecy}
 use Rattle.stream.proofs.Rules.{fronted, by-front}
+use Rattle.alike.proofs.Given.{record-gives-none}
 use Rattle.alike.specs.Statement.{Rec, encoded, written, Ends, atEnd, inRecord, meant, asked, callsOf, Keeps, RecordsDiffer, PrintedAlike, ends, prints, FromState, settingsAfter, Demand3Traces}
 
 ---- What stands at the front
@@ -110,9 +111,14 @@ module _ (x : Settings) (one other : List Asked) where
     alike-equal l m e = subst (λ (y : List ℕ). PrintedAlike x one other l y) e ends
 
     two-lines : (i j k : ℕ) (r t : Reply) (l m first second : List ℕ) → first ≡ line i j r ++ l → second ≡ line i k t ++ m → j ≡ k
-        → Alike x one other r t → PrintedAlike x one other l m → PrintedAlike x one other first second
-    two-lines i j k r t l m first second u v e a p =
-        rw (u, v) (subst (λ (y : ℕ). PrintedAlike x one other (line i j r ++ l) (line i y t ++ m)) e (prints i j r t a p))
+        → Alike x one other r t → ((j ≡ 8 → ⊥) → r .given ≡ t .given) → PrintedAlike x one other l m → PrintedAlike x one other first second
+    two-lines i j k r t l m first second u v e a g p =
+        rw (u, v) (subst (λ (y : ℕ). PrintedAlike x one other (line i j r ++ l) (line i y t ++ m)) e (prints i j r t a g p))
+
+    -- what is answered to two records of one kind, which is no read's
+    given-same : (s t : State) (r v : Rec) → r .kind ≡ v .kind → (r .kind ≡ 8 → ⊥) → answered z s (meant r) .1 .given ≡ answered z t (meant v) .1 .given
+    given-same s t r v e h =
+        record-gives-none z s (r .kind) (r .body) h ∙ sym (record-gives-none z t (v .kind) (v .body) (λ k. h (e ∙ k)))
 
     ended : (m i : ℕ) (s t : State) (tail : List ℕ) → Ends tail → traceFrom z m i s tail ≡ traceFrom z m i t tail
     ended zero i s t tail e = refl
@@ -133,7 +139,7 @@ module _ (x : Settings) (one other : List Asked) where
         (traceFrom z m (suc i) (answered z t (meant v) .0) (written ts ++ tail))
         = printed m (suc i) (answered z s (meant r) .0) (answered z t (meant v) .0) rs ts tail ds e (n .later) in
         two-lines i (r .kind) (v .kind) (answered z s (meant r) .1) (answered z t (meant v) .1) _ _ _ _
-        (by-records z m i s r rs tail) (by-records z m i t v ts tail) (kind-same r v d) (n .now) go
+        (by-records z m i s r rs tail) (by-records z m i t v ts tail) (kind-same r v d) (n .now) (given-same s t r v (kind-same r v d)) go
 
 from-here : (z : Sizes) (rs ts : List Rec) (tail : List ℕ) (x : Settings) → Quiet x → Each (RecordsDiffer x) rs ts → Ends tail
     → (limit index : ℕ) (s : State) → s .settings ≡ x

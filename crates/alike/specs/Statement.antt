@@ -64,10 +64,12 @@ pub data RecordsDiffer (x : Settings) (r t : Rec) : Type 0 where
 ---- The conclusion
 
 -- Two texts, line by line: index, kind, outcome and count are the same, and so are the bytes given, but where a read delivers in both runs
--- the byte of one call, and the two runs' calls bring two bytes. From some line on the texts may be one text.
+-- the byte of one call, and the two runs' calls bring two bytes. The kind of a read is 8: in a line of any other kind all bytes are the same.
+-- From some line on the texts may be one text.
 pub data PrintedAlike (x : Settings) (one other : List Asked) : List ℕ → List ℕ → Type 0 where
   ends : {l : List ℕ} → PrintedAlike x one other l l
-  prints : {l m : List ℕ} (index kind : ℕ) (r t : Reply) → Alike x one other r t → PrintedAlike x one other l m
+  prints : {l m : List ℕ} (index kind : ℕ) (r t : Reply) → Alike x one other r t → ((kind ≡ 8 → ⊥) → r .given ≡ t .given)
+      → PrintedAlike x one other l m
       → PrintedAlike x one other (line index kind r ++ l) (line index kind t ++ m)
 
 ---- Demand 3

@@ -9,8 +9,8 @@ use lib.Dec.{eqb, leb}
 use borrow.Author.Tests.{eq-eqb, ne-eqb, le-leb, lt-leb}
 use Rattle.rules.specs.declared.Settings.{Settings}
 use Rattle.rules.specs.Sizes.{Output as Ruled}
-use Rattle.rules.specs.Output.{queued, queuedWhole, processed}
-use Rattle.rules.specs.Echo.{visible, caret, echoOf, storedEcho, rubout}
+use Rattle.rules.specs.Output.{queued, queuedWhole}
+use Rattle.rules.specs.Echo.{visible, echoOf, storedEcho, rubout}
 use Rattle.rules.proofs.OutputLaws.{append-nil, queued-none}
 use Rattle.output.specs.Contract.{inRange, get, Becomes, Measures, Extends}
 use Rattle.output.specs.declared.Measure.{Measure}

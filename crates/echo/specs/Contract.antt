@@ -1,6 +1,6 @@
 -- What the functions of this crate promise: the output with these bytes echoed, whole or not at all.
 use Prim.Native.Nat.{ℕ}
-use mathlib.Core.Bool.{Bool, cond}
+use mathlib.Core.Bool.{cond}
 use mathlib.Core.List.{List, [], _∷_, _++_}
 use lib.ListN.{length}
 use Rattle.rules.specs.declared.Settings.{Settings}

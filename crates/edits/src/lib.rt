@@ -1,6 +1,5 @@
 // Document 01, 'Editing' and its echo, on a port: ERASE, WERASE, KILL, REPRINT.
 ghost use mathlib.Core.Path.{_≡_};
-ghost use Prim.Native.Nat.{_≤_};
 ghost use lib.ListN.{length};
 ghost use lib.Dec.{leb};
 ghost use Rattle.rules.specs.Editing.{erase, wordErase, kill, reprint};

@@ -2,30 +2,28 @@
 use mathlib.Core.Path.{_≡_, refl, sym, ap, ap₂, _∙_}
 use mathlib.Core.Bool.{Bool, true, false, _&&_, cond, false≢true}
 use mathlib.Core.List.{List, [], _∷_, _++_}
-use Prim.Native.Nat.{ℕ, zero, suc, _+_, _-_, _%_, _<_, _≤_, min}
+use Prim.Native.Nat.{ℕ, suc, _+_, _-_, _%_, _<_, _≤_, min}
 use native.Mathlib.Omega.{arith}
 use lib.ListN.{length, take, drop, length-take, length-drop}
 use lib.Seq.{take-all}
-use lib.Dec.{ltb, eqb, leb}
+use lib.Dec.{ltb, eqb}
 use borrow.Author.Tests.{eqb-true, lt-ltb, le-ltb}
 use Rattle.queue.specs.Ring.{ring, stores}
 use Rattle.queue.specs.Queue.{held}
 use Rattle.queue.proofs.Rings.{ring-length, drop-ring, stores-length}
 use Rattle.queue.proofs.Laws.{laid-again, put-same}
 use Rattle.rules.specs.declared.Settings.{Settings}
-use Rattle.rules.specs.declared.Answer.{Answer}
 use Rattle.rules.specs.declared.Outcome.the-variants.{Ok, Refused}
 use Rattle.rules.specs.declared.Refusal.the-variants.{Nothing, HungUp}
-use Rattle.rules.specs.Sizes.{State, Output as Ruled}
-use Rattle.rules.specs.Refusals.{Reply, lentAfter}
+use Rattle.rules.specs.Sizes.{State}
 use Rattle.rules.specs.Output as rule
-use Rattle.rules.proofs.OutputLaws.{append-nil, queued-none}
+use Rattle.rules.proofs.OutputLaws.{append-nil}
 use Rattle.output.specs.Contract as output
 use Rattle.output.specs.declared.Output.{Output}
 use Rattle.output.specs.declared.Wrote.{Wrote}
 use Rattle.output.specs.declared.Sent.{Sent}
-use Rattle.port.specs.State.{sizes, get, withOutput}
-use Rattle.port.specs.Contract.{Outcomes, becomes, keeps, writtenBy, written, transmitted, result, first, second, third, MovesThrough}
+use Rattle.port.specs.State.{get, withOutput}
+use Rattle.port.specs.Contract.{Outcomes, keeps, writtenBy, written, transmitted, result, second, third, MovesThrough}
 use Rattle.port.specs.declared.Port.{Port}
 use Rattle.port.specs.declared.Answered.{Answered}
 

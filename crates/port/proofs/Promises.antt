@@ -1,23 +1,20 @@
 -- What the promises are worth: no second result meets one, the rules answer the same whatever the input is, and the state
 -- after a call is the rules' next state. Assumes nothing.
 use mathlib.Core.Path.{_≡_, refl, sym, ap, _∙_}
-use mathlib.Core.Bool.{Bool, true, false, _&&_, cond}
+use mathlib.Core.Bool.{Bool, true, false, _&&_}
 use mathlib.Core.List.{List, []}
-use Prim.Native.Nat.{ℕ, _+_, _%_, _≤_, min}
+use Prim.Native.Nat.{ℕ, _+_, _%_, _≤_}
 use native.Mathlib.Omega.{arith}
-use lib.ListN.{length, take, drop, length-drop}
+use lib.ListN.{length, take, length-drop}
 use lib.Dec.{ltb, eqb}
 use Rattle.queue.specs.Ring.{stores}
-use Rattle.rules.specs.declared.Answer.{Answer}
-use Rattle.rules.specs.Sizes.{Sizes, State, Output as Ruled, withOutput as outputReplaced}
-use Rattle.rules.specs.Refusals.{Reply}
+use Rattle.rules.specs.Sizes.{Output as Ruled, withOutput as outputReplaced}
 use Rattle.rules.specs.Output as rule
 use Rattle.rules.proofs.OutputLaws.{taken-fits}
 use Rattle.output.specs.Contract as output
-use Rattle.output.specs.declared.Output.{Output}
 use Rattle.output.proofs.Laws as law
 use Rattle.port.specs.State.{sizes, get, withOutput}
-use Rattle.port.specs.Contract.{Outcomes, becomes, keeps, writtenBy, written, transmitted, result, MovesThrough}
+use Rattle.port.specs.Contract.{Outcomes, writtenBy, written, transmitted, result, MovesThrough}
 use Rattle.port.specs.declared.Port.{Port}
 use Rattle.port.specs.declared.Answered.{Answered}
 use Rattle.port.specs.declared.Moved.{Moved}

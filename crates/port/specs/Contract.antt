@@ -4,13 +4,13 @@
 use Prim.Native.Nat.{ℕ, _+_, _%_}
 use mathlib.Core.Path.{_≡_}
 use mathlib.Core.Bool.{Bool, true, false, cond}
-use mathlib.Core.List.{List, [], _++_}
+use mathlib.Core.List.{List, []}
 use lib.ListN.{length, drop}
 use Rattle.queue.specs.Ring.{stores}
 use Rattle.rules.specs.declared.Answer.{Answer}
 use Rattle.rules.specs.declared.Outcome.{Outcome}
 use Rattle.rules.specs.declared.Outcome.the-variants.{Ok, Wait, Reports, Judged, Refused}
-use Rattle.rules.specs.Sizes.{Sizes, State, Output as Ruled}
+use Rattle.rules.specs.Sizes.{State, Output as Ruled}
 use Rattle.rules.specs.Refusals.{Reply, lentAfter}
 use Rattle.rules.specs.Output as rule
 use Rattle.output.specs.Contract.{put}

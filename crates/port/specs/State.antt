@@ -1,10 +1,7 @@
 -- A port and its three slices as a state of the rules (get). It is total: every port with any slices is a state.
 use Prim.Native.Nat.{ℕ, min}
-use mathlib.Core.Path.{_≡_}
-use mathlib.Core.Bool.{Bool, true, false, cond}
-use mathlib.Core.List.{List, []}
+use mathlib.Core.List.{List}
 use lib.ListN.{length, take}
-use Rattle.queue.specs.Queue.{laid}
 use Rattle.rules.specs.Sizes.{Sizes, State}
 use Rattle.input.specs.Contract as input
 use Rattle.output.specs.Contract as output

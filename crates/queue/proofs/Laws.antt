@@ -1,19 +1,16 @@
 -- Laws of what a queue holds, and one lemma for each way out of its functions. Assumes nothing.
 use mathlib.Core.Path.{_≡_, refl, sym, ap, _∙_}
-use mathlib.Core.Logic.{_⊎_, inl, inr, ⊎-elim}
-use mathlib.Core.Bool.{Bool, true, false, cond}
-use mathlib.Core.List.{List, [], _∷_, _++_, append-assoc}
+use mathlib.Core.Logic.{_⊎_, ⊎-elim}
+use mathlib.Core.List.{List, [], _∷_, _++_}
 use Prim.Native.Nat.{ℕ, zero, suc, _+_, _-_, _%_, _<_, _≤_, min}
-use native.Mathlib.Nat.{add-zero, zero-add, add-suc, suc-add, add-assoc, mod-mod, mod-add-mod, mod-lt, le-antisymm}
+use native.Mathlib.Nat.{add-zero, zero-add, add-suc, suc-add, add-assoc, mod-add-mod, mod-lt, le-antisymm}
 use native.Mathlib.Omega.{arith}
-use lib.ListN.{length, getD, set, take, drop, length-append, length-take, length-drop, length-set}
+use lib.ListN.{length, getD, set, take, drop, length-append, length-drop, length-set}
 use lib.Seq.{set-getD, take-all}
-use lib.Dec.{leb, ltb}
 use borrow.Author.Tests.{le-leb, lt-leb, lt-ltb, le-ltb}
 use Rattle.queue.specs.Ring.{ring, stores}
 use Rattle.queue.specs.Queue.{held, fitted, laid, appended, changed, Holds, Takes}
 use Rattle.queue.specs.declared.Queue.{Queue}
-use Rattle.queue.specs.declared.Taken.{Taken}
 use Rattle.queue.proofs.Rings.{lt-or-le, ring-length, ring-mod, ring-stores, ring-out, take-ring, drop-ring, stores-length, stores-next}
 
 ---- Stores

@@ -2,8 +2,8 @@
 -- On the right of each equation stand values at entry only.
 use Prim.Native.Nat.{ℕ, _+_, _-_, _%_, min}
 use mathlib.Core.Path.{_≡_}
-use mathlib.Core.Bool.{Bool, cond}
-use mathlib.Core.List.{List, [], _∷_, _++_}
+use mathlib.Core.Bool.{cond}
+use mathlib.Core.List.{List, _++_}
 use lib.ListN.{length, set, take, drop}
 use lib.Dec.{leb, ltb}
 use Rattle.queue.specs.Ring.{ring, stores}

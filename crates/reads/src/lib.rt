@@ -1,6 +1,5 @@
 // Document 01, 'Reads': the call, for every value of port and slices. A read is lent no slice of the output.
 ghost use mathlib.Core.Path.{_≡_};
-ghost use Prim.Native.Nat.{_<_};
 ghost use lib.ListN.{length};
 ghost use Rattle.rules.specs.Reads as rule;
 ghost use Rattle.input.specs.Contract.{get};

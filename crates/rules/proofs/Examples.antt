@@ -1,17 +1,17 @@
 -- E1 to E12 of document 01 as one list, and further examples that catch known mistakes.
 use Prim.Native.Nat.{ℕ}
-use mathlib.Core.Path.{_≡_, refl}
-use mathlib.Core.Bool.{Bool, true, false, not, _&&_, _||_}
-use mathlib.Core.List.{List, [], _∷_, _++_, map}
+use mathlib.Core.Path.{refl}
+use mathlib.Core.Bool.{false, not, _&&_, _||_}
+use mathlib.Core.List.{List, [], _∷_, _++_}
 use lib.ListN.{replicate}
-use Rattle.rules.specs.Types.{Settings, Event, Good, Break, Tick, Call, Set, Receive, Read, Write, Transmit, Flush, Ok, Wait, Refused, Nothing}
-use Rattle.rules.specs.Sizes.{Sizes, base}
+use Rattle.rules.specs.Types.{Settings, Event, Good, Break, Tick, Call, Receive, Read, Write, Transmit, Flush, Ok, Wait, Refused, Nothing}
+use Rattle.rules.specs.Sizes.{base}
 use Rattle.rules.specs.Settings.{elem, settingsOf, defaultFlags, defaultValues, defaults}
 use Rattle.rules.specs.Refusals.{Reply, says, sends, gives}
 use Rattle.rules.specs.Output.{expand, columnAfter}
 use Rattle.rules.specs.Step.{Asked}
 use Rattle.rules.specs.Trace.{text}
-use Rattle.rules.proofs.Check.{Port, theRules, Example, answers, Holds}
+use Rattle.rules.proofs.Check.{theRules, Example, answers, Holds}
 
 ---- Names for calls and answers
 

@@ -1,21 +1,21 @@
 -- Bounds that hold after any run from a fresh port, for any sizes.
-use Prim.Native.Nat.{ℕ, zero, suc, _+_, _≤_, _<_}
+use Prim.Native.Nat.{ℕ, zero, suc, _+_, _≤_}
 use native.Mathlib.Omega.{arith}
-use mathlib.Core.Path.{_≡_, refl, sym, ap, _∙_}
-use mathlib.Core.Bool.{Bool, true, false, not, _&&_, _||_, cond, true≢false, false≢true}
-use mathlib.Core.List.{List, [], _∷_, _++_, map, reverse, append-assoc}
-use lib.ListN.{length, take, drop, length-append, length-reverse, length-drop, length-map}
+use mathlib.Core.Path.{_≡_, refl, ap, _∙_}
+use mathlib.Core.Bool.{Bool, true, false, _&&_, _||_, cond, true≢false, false≢true}
+use mathlib.Core.List.{List, [], _∷_, _++_, reverse}
+use lib.ListN.{length, take, drop, length-append, length-reverse, length-drop}
 use lib.Dec.{ltb, leb, eqb}
 use borrow.Author.Tests.{ltb-true, ltb-false, leb-true}
-use Rattle.rules.specs.Types.{Settings, Event, Good, Parity, Framing, Break, Tick, Hangup, Call, Set, Receive, Read, Write, Transmit, Flush, Cancel, Foreground, ReadVerdict, WriteVerdict, SettingsVerdict, Process, Verdict, Group, Outcome, Waiting}
-use Rattle.rules.specs.Sizes.{Sizes, Place, Input, Output, State, used, unit, further, delimiter, endOfFile, withInput, withOutput, withLiteralNext}
-use Rattle.rules.specs.Settings.{is, acceptable, withoutMarks, endsHere, oneLine, stored, changedInput, changed, fresh}
+use Rattle.rules.specs.Types.{Settings, Event, Good, Parity, Framing, Break, Tick, Hangup, Call, Set, Receive, Read, Write, Transmit, Flush, Cancel, Foreground, ReadVerdict, WriteVerdict, SettingsVerdict, Verdict}
+use Rattle.rules.specs.Sizes.{Sizes, Place, Input, Output, State, used, unit, delimiter, endOfFile, withInput, withLiteralNext}
+use Rattle.rules.specs.Settings.{is, acceptable, withoutMarks, oneLine, stored, changedInput, fresh}
 use Rattle.rules.specs.Flushing.{flushInput, flushOutput, flushBoth, flushedOn}
-use Rattle.rules.specs.Output.{expand, capped, moved, columnAfter, columnsAfter, processed, queued, room, queuedWhole, written, taken, writtenOn, oldest}
+use Rattle.rules.specs.Output.{capped, moved, columnAfter, columnsAfter, processed, queued, room, queuedWhole, written, taken, writtenOn, oldest}
 use Rattle.rules.specs.Editing.{Edit, erase, wordErase, kill, reprint, joined, units, placesOf, withoutUnits, removed, edited}
 use Rattle.rules.specs.Echo.{shown, editEcho}
-use Rattle.rules.specs.Fit.{unitFits, endFits, keptIn, kept, ended, overflowOn, overflow, unitOn, storesUnit, endOn, storesEnd}
-use Rattle.rules.specs.Received.{Meaning, literalNext, signals, stops, starts, drops, edits, ends, marks, stores, step1, step2, step3, step4, step5, step6, step7, step8, step9, plainly, mapped, flushedUnless, stoppedTo, editOn, carry, stripped, good, silently, breakOn, brokenOn, parityOn, hungUp, hangupOn, event, receivedOn, received}
+use Rattle.rules.specs.Fit.{unitFits, endFits, keptIn, kept, ended, overflowOn, unitOn, storesUnit, endOn, storesEnd}
+use Rattle.rules.specs.Received.{Meaning, literalNext, signals, stops, starts, drops, edits, ends, marks, stores, step1, step2, step3, step8, step9, mapped, flushedUnless, editOn, carry, good, silently, breakOn, brokenOn, parityOn, hungUp, hangupOn, event, receivedOn}
 use Rattle.rules.specs.Reads.{Part, firstLine, partOf, finish, isEmpty, doneOn, ruledOn, clashes, readOn}
 use Rattle.rules.specs.Verdicts.{tooLarge, foregroundOn, judgedOn, readVerdict, writeVerdict, settingsVerdict}
 use Rattle.rules.proofs.OutputLaws.{taken-fits}

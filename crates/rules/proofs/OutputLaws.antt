@@ -5,7 +5,7 @@ use native.Mathlib.Numerals.{add-one}
 use mathlib.Core.Path.{_≡_, refl, sym, ap, subst, _∙_}
 use mathlib.Core.Bool.{Bool, true, false, cond}
 use mathlib.Core.List.{List, [], _∷_, _++_, append-assoc}
-use lib.ListN.{length, take, drop, getD, replicate, length-append, take-append-drop}
+use lib.ListN.{length, take, getD, length-append}
 use lib.Seq.{take-suc}
 use Rattle.rules.specs.Types.{Settings}
 use Rattle.rules.specs.Sizes.{Output}

@@ -1,7 +1,7 @@
 -- E13 of document 01, and how a trace ends, as theorems about `trace`.
-use Prim.Native.Nat.{ℕ, _*_, _+_, _/_, _%_, _-_}
+use Prim.Native.Nat.{ℕ, _*_, _+_, _-_}
 use mathlib.Core.Path.{_≡_, refl}
-use mathlib.Core.Bool.{Bool, true, false, cond}
+use mathlib.Core.Bool.{cond}
 use mathlib.Core.List.{List, [], _∷_, _++_}
 use lib.Dec.{ltb}
 use Rattle.rules.specs.Sizes.{base}

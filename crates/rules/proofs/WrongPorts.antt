@@ -1,8 +1,8 @@
 -- The wrong ports of 'How tight the promises are', each as a step of its own: the list of examples is false of each.
-use Prim.Native.Nat.{ℕ, suc}
-use mathlib.Core.Path.{_≡_, refl}
+use Prim.Native.Nat.{suc}
+use mathlib.Core.Path.{refl}
 use mathlib.Core.Bool.{Bool, true, false, _||_}
-use mathlib.Core.List.{List, [], _∷_}
+use mathlib.Core.List.{[]}
 use lib.ListN.{length}
 use lib.Dec.{ltb}
 use Rattle.rules.specs.Types.{Event, Call, Set, Receive, Read, Write, Transmit, Flush, Cancel, Foreground, ReadVerdict, WriteVerdict, SettingsVerdict, Nothing, Ok, Wait}

@@ -1,7 +1,7 @@
 -- Document 01, 'Echo': the bytes that are shown, before output processing.
 use Prim.Native.Nat.{ℕ, zero, suc, _+_}
-use mathlib.Core.Bool.{Bool, true, false, not, _&&_, cond}
-use mathlib.Core.List.{List, [], _∷_, _++_, reverse}
+use mathlib.Core.Bool.{not, _&&_, cond}
+use mathlib.Core.List.{List, [], _∷_, _++_}
 use lib.Dec.{eqb}
 use Rattle.rules.specs.Types.{Settings}
 use Rattle.rules.specs.Sizes.{Sizes, Place, State, withOutput}

@@ -1,5 +1,5 @@
 -- Document 01, 'Editing': how many units of the current line are removed. Lists of units are newest first.
-use Prim.Native.Nat.{ℕ, zero, suc, _+_, min}
+use Prim.Native.Nat.{ℕ, suc, _+_, min}
 use mathlib.Core.Bool.{Bool, true, false, not, _&&_, cond}
 use mathlib.Core.List.{List, [], _∷_, _++_, reverse}
 use lib.ListN.{length, drop}

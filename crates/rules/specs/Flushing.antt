@@ -1,10 +1,10 @@
 -- Document 01, 'Received events': flushing; and 'Reads': what an input flush does to a timer.
 use Prim.Native.Nat.{ℕ}
-use mathlib.Core.Bool.{Bool, true, false, not, _&&_, cond}
-use mathlib.Core.List.{List, []}
+use mathlib.Core.Bool.{Bool, true, false, not, _&&_}
+use mathlib.Core.List.{[]}
 use lib.Dec.{ltb, eqb}
-use Rattle.rules.specs.Types.{Settings, Refusal, OutOfRange, Outcome, Ok, Waiting, Idle, Untimed, Timed}
-use Rattle.rules.specs.Sizes.{Input, Output, State, withOutput}
+use Rattle.rules.specs.Types.{Settings, OutOfRange, Ok, Waiting, Idle, Untimed, Timed}
+use Rattle.rules.specs.Sizes.{State, withOutput}
 use Rattle.rules.specs.Refusals.{Reply, says, refuses}
 
 -- The timer of 'MIN and TIME above 0' is the one in force: it runs between bytes.

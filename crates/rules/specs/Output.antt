@@ -4,7 +4,7 @@ use mathlib.Core.Bool.{Bool, true, false, _&&_, _||_, cond}
 use mathlib.Core.List.{List, [], _∷_, _++_}
 use lib.ListN.{length, take, drop, replicate}
 use lib.Dec.{ltb, leb, eqb}
-use Rattle.rules.specs.Types.{Settings, Refusal, Nothing, HungUp, Ok}
+use Rattle.rules.specs.Types.{Settings, Nothing, HungUp, Ok}
 use Rattle.rules.specs.Sizes.{Sizes, Output, State, withOutput}
 use Rattle.rules.specs.Refusals.{Reply, says, sends, refuses}
 

@@ -1,11 +1,11 @@
 -- Document 01, 'Reads', and the order of a read's refusals.
 use Prim.Native.Nat.{ℕ, zero, suc, min}
-use mathlib.Core.Bool.{Bool, true, false, not, _&&_, _||_, cond}
+use mathlib.Core.Bool.{Bool, true, false, not, _||_, cond}
 use mathlib.Core.List.{List, [], _∷_, map}
 use lib.ListN.{length, take, drop}
 use lib.Dec.{ltb, leb, eqb}
-use Rattle.rules.specs.Types.{Settings, Refusal, Nothing, ReadWaits, Wait, Timer, Waiting, Idle, Untimed, Timed}
-use Rattle.rules.specs.Sizes.{Place, Input, State, withWaiting}
+use Rattle.rules.specs.Types.{Settings, Nothing, ReadWaits, Wait, Waiting, Idle, Untimed, Timed}
+use Rattle.rules.specs.Sizes.{Place, State, withWaiting}
 use Rattle.rules.specs.Refusals.{Reply, says, gives, refuses}
 
 abbrev pub bytesOf : List Place → List ℕ

@@ -1,8 +1,8 @@
 -- Document 01, 'Job control verdicts', and the foreground group.
 use Prim.Native.Nat.{ℕ}
-use mathlib.Core.Bool.{Bool, true, false, not, _&&_, _||_, cond}
+use mathlib.Core.Bool.{Bool, true, false, not, _||_, cond}
 use lib.Dec.{ltb, eqb}
-use Rattle.rules.specs.Types.{Process, Refusal, OutOfRange, Verdict, Allowed, Eio, Ttin, Ttou, Ok, Judged, Group, Nobody, Number}
+use Rattle.rules.specs.Types.{Process, OutOfRange, Verdict, Allowed, Eio, Ttin, Ttou, Ok, Judged, Group, Nobody, Number}
 use Rattle.rules.specs.Sizes.{State, withForeground}
 use Rattle.rules.specs.Refusals.{Reply, says, refuses}
 

@@ -38,6 +38,20 @@ KeepsSettings (ReadVerdict p) = Unit {0}
 KeepsSettings (WriteVerdict p) = Unit {0}
 KeepsSettings (SettingsVerdict p) = Unit {0}
 
+-- a call that is no read; demand 3 of callers (crate discreet) cites it
+abbrev pub NoRead : Call → Type 0
+NoRead (Set x) = Unit {0}
+NoRead (Receive e) = Unit {0}
+NoRead (Read nonblocking) = ⊥
+NoRead Write = Unit {0}
+NoRead Transmit = Unit {0}
+NoRead (Flush choice) = Unit {0}
+NoRead Cancel = Unit {0}
+NoRead (Foreground group orphaned) = Unit {0}
+NoRead (ReadVerdict p) = Unit {0}
+NoRead (WriteVerdict p) = Unit {0}
+NoRead (SettingsVerdict p) = Unit {0}
+
 ---- The premises
 
 -- ECHO clear, WERASE disabled

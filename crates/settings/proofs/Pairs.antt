@@ -1,5 +1,5 @@
 -- The scans over the special characters, in rules' words `elem`, `enabledOf` and `distinct`. Assumes nothing.
-use Prim.Native.Nat.{ℕ, suc, _+_, _<_, _≤_}
+use Prim.Native.Nat.{ℕ, _+_, _<_, _≤_}
 use mathlib.Core.Path.{_≡_, refl, ap, sym, _∙_}
 use mathlib.Core.Bool.{Bool, true, false, not, _&&_, _||_, cond, and-true, and-false, Bool·not-not}
 use mathlib.Core.List.{List, [], _∷_}

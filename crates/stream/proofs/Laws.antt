@@ -5,7 +5,7 @@ use native.Mathlib.Omega.{arith}
 use mathlib.Core.Path.{_≡_, refl, sym, ap, ap₂, subst, _∙_}
 use mathlib.Core.Bool.{Bool, true, false, _||_, cond, true≢false}
 use mathlib.Core.List.{List, [], _∷_, _++_}
-use mathlib.Core.Logic.{⊎-elim}
+use mathlib.Core.Logic.{⊎-elim, inl, inr}
 use Rattle.queue.proofs.Rings.{lt-or-le}
 use lib.ListN.{length, take, drop, getD, set, length-append, length-set}
 use lib.Dec.{ltb, leb, eqb}
@@ -295,6 +295,7 @@ module _ (g : Stream) (bs ms os kept piece l : List ℕ) where
         further = λ some. some;
         silent = λ n. refl;
         along = λ rest. over g bs ms os kept (piece ++ rest) d ∙ sym (over g bs ms os kept (drop (length piece) piece ++ rest) d);
+        exact = inl (record { port = refl; bytes = refl; marks = refl; out = refl });
       }
 
   pub feeds-none : length piece ≡ 0 → Feeds g bs ms os kept piece l (record { stream = g; used = 0; length = 0 }) bs ms os kept l
@@ -307,6 +308,7 @@ module _ (g : Stream) (bs ms os kept piece l : List ℕ) where
         further = λ some. omega arith;
         silent = λ f. sym n;
         along = λ rest. refl;
+        exact = inl (record { port = refl; bytes = refl; marks = refl; out = refl });
       }
 
   abbrev stopped : Stream
@@ -327,6 +329,7 @@ module _ (g : Stream) (bs ms os kept piece l : List ℕ) where
             ∙ trace-full (sizes (g .port) bs ms os) (g .index) (get (g .port) bs ms os) (65535 - g .index) (pending kept (g .have) ++ (piece ++ rest)) (omega arith)
             (λ f. some (omega (arith, f, length-append (pending kept (g .have)) (piece ++ rest), length-append piece rest)))
             ∙ sym (append-nil (fullLine (g .index)));
+        exact = inl (record { port = refl; bytes = refl; marks = refl; out = refl });
       }
 
   -- bytes of the piece are kept behind those of the record that has begun
@@ -353,6 +356,7 @@ module _ (g : Stream) (bs ms os kept piece l : List ℕ) where
               gathered rest
               ∙ ap (λ (y : List ℕ). traceFrom (sizes (g .port) bs ms os) (65535 - g .index) (g .index) (get (g .port) bs ms os) (y ++ (drop u piece ++ rest)))
               (sym (ap (λ (t : Bool). cond t (come kept′ (n + u)) []) o));
+          exact = inl (record { port = refl; bytes = refl; marks = refl; out = refl });
         }
 
     pub feeds-record : (r : Recorded) (bs′ ms′ os′ l′ : List ℕ) → isOpen kept′ (n + u) ≡ false
@@ -375,4 +379,5 @@ module _ (g : Stream) (bs ms os kept piece l : List ℕ) where
               ∙ ap₂ (λ (y : Sizes) (x : State). line (g .index) (kindOf kept′) (v .1) ++ traceFrom y (65535 - (g .index + 1)) (suc (g .index)) x (drop u piece ++ rest)) (sym (hr .now .sizes)) (sym (hr .now .state))
               ∙ ap₂ (λ (j : ℕ) (y : List ℕ). line (g .index) (kindOf kept′) (v .1) ++ traceFrom (sizes (r .port) bs′ ms′ os′) (65535 - (g .index + 1)) j (get (r .port) bs′ ms′ os′) (y ++ (drop u piece ++ rest)))
               (sym (add-one (g .index))) (sym (pending-none kept′));
+          exact = inr hr;
         }

@@ -3,6 +3,7 @@ use Prim.Native.Nat.{ℕ, _+_, _-_, _≤_, _<_, min}
 use mathlib.Core.Path.{_≡_}
 use mathlib.Core.Bool.{Bool, true, false, _||_, cond}
 use mathlib.Core.List.{List, [], _++_}
+use mathlib.Core.Logic.{_⊎_}
 use lib.ListN.{length, take, drop, getD, replicate}
 use lib.Dec.{leb, ltb, eqb}
 use Rattle.rules.specs.Sizes.{Sizes, State}
@@ -10,6 +11,8 @@ use Rattle.rules.specs.Trace.{two, cutLine, fullLine, traceFrom}
 use Rattle.records.specs.Lines.{Prints}
 use Rattle.port.specs.Contract as port
 use Rattle.port.specs.State.{sizes, get}
+use Rattle.port.specs.declared.Port.{Port}
+use Rattle.trace.specs.Contract.{Records}
 use Rattle.stream.specs.declared.Stream.{Stream}
 use Rattle.stream.specs.declared.Fed.{Fed}
 
@@ -26,7 +29,7 @@ kindOf kept = two (getD kept 2 0) (getD kept 3 0)
 abbrev pub bodyOf : List ℕ → List ℕ
 bodyOf kept = take (min (two (getD kept 0 0) (getD kept 1 0)) 513) (drop 4 kept)
 
--- of a record some bytes have come, and some are to come
+-- fewer bytes have come than the record has
 abbrev pub isOpen : List ℕ → ℕ → Bool
 isOpen kept have = ltb have (sizeOf kept)
 
@@ -55,8 +58,16 @@ left g kept =
 abbrev pub beginning : Stream
 beginning = record { port = port.fresh; index = 0; have = 0; done = false }
 
+-- the port and its slices are as they were
+pub record Untouched (p : Port) (bs ms os : List ℕ) (q : Port) (bs′ ms′ os′ : List ℕ) : Type 0 where
+  pub port : q ≡ p
+  pub bytes : bs′ ≡ bs
+  pub marks : ms′ ≡ ms
+  pub out : os′ ≡ os
+
 -- Of the piece so many bytes are used, at least one if there is one; a text is printed for them, none only if the whole piece is used;
--- whatever comes after, it and what is printed from then on are what was to be printed.
+-- whatever comes after, it and what is printed from then on are what was to be printed. Port and slices are as they were, or a record is
+-- carried out on them.
 pub record Feeds (g : Stream) (bs ms os kept piece l : List ℕ) (r : Fed) (bs′ ms′ os′ kept′ l′ : List ℕ) : Type 0 where
   pub text : List ℕ
   pub printed : Prints l text (r .length) l′
@@ -65,6 +76,8 @@ pub record Feeds (g : Stream) (bs ms os kept piece l : List ℕ) (r : Fed) (bs�
   pub further : 0 < length piece → 0 < r .used
   pub silent : text ≡ [] → r .used ≡ length piece
   pub along : (rest : List ℕ) → future g bs ms os kept (piece ++ rest) ≡ text ++ future (r .stream) bs′ ms′ os′ kept′ (drop (r .used) piece ++ rest)
+  pub exact : Untouched (g .port) bs ms os (r .stream .port) bs′ ms′ os′
+      ⊎ Records (g .port) bs ms os (g .index) (kindOf kept′) (bodyOf kept′) l (record { port = r .stream .port; length = r .length }) bs′ ms′ os′ l′
 
 ---- What the private functions promise
 

@@ -1,10 +1,18 @@
 // The trace program: records from standard input, a line each to standard output as soon as the record is complete. What is
 // written is decided in `stream`.
+ghost use mathlib.Core.Path.{_≡_};
+ghost use mathlib.Core.Bool.{true};
 ghost use Rattle.stream.specs.Pieces.{Passes};
 use libc::STDIN_FILENO;
 use libc::STDOUT_FILENO;
 use port::Port;
 use stream::Stream;
+
+// The stream after a piece, and whether every line was written.
+struct Passed {
+    stream: Stream,
+    written: bool,
+}
 
 // A piece of the input is fed, and each line written.
 fn pass(
@@ -14,8 +22,8 @@ fn pass(
     out: &mut [u8],
     kept: &mut [u8; Stream::KEPT],
     piece: &[u8],
-) -> Stream
-    ensures { λ r. ⌜ Passes g (now (bytes .entry)) (now (marks .entry)) (now (out .entry)) (now (kept .entry)) (now (piece .entry)) r (now (bytes .exit)) (now (marks .exit)) (now (out .exit)) (now (kept .exit)) ⌝ }
+) -> Passed
+    ensures { λ r. ⌜ (r .written ≡ true → Passes g (now (bytes .entry)) (now (marks .entry)) (now (out .entry)) (now (kept .entry)) (now (piece .entry)) (r .stream) (now (bytes .exit)) (now (marks .exit)) (now (out .exit)) (now (kept .exit))) ⌝ }
 {
     let mut line = [0u8; Stream::LINE];
     let mut s = g;
@@ -23,11 +31,20 @@ fn pass(
     while at < piece.len() {
         let f = stream::feed(s, bytes, marks, out, kept, &piece[at..], &mut line);
         let n = f.length;
-        io::write_all(STDOUT_FILENO, &line[..n]);
+        let is_written = io::write_all(STDOUT_FILENO, &line[..n]);
         s = f.stream;
         at += f.used;
+        if !is_written {
+            return Passed {
+                stream: s,
+                written: false,
+            };
+        }
     }
-    s
+    Passed {
+        stream: s,
+        written: true,
+    }
 }
 
 // A proved loop has to end, and nothing says that the input does: the turns are counted down from a number that no run uses up.
@@ -39,16 +56,27 @@ fn main() {
     let mut buf = [0u8; 65536];
     let mut s = Stream::start();
     let mut turns = u64::MAX;
-    while turns > 0 {
+    while turns > 0 && !s.done {
         let got = libc::read(STDIN_FILENO, &mut buf);
+        if got < 0 {
+            os::fail(b"read");
+            return;
+        }
         let n = io::count(got, &buf);
         if n == 0 {
             break;
         }
-        s = pass(s, &mut bytes, &mut marks, &mut out, &mut kept, &buf[..n]);
+        let r = pass(s, &mut bytes, &mut marks, &mut out, &mut kept, &buf[..n]);
+        if !r.written {
+            os::fail(b"write");
+            return;
+        }
+        s = r.stream;
         turns -= 1;
     }
     let mut line = [0u8; Stream::LINE];
     let n = stream::finish(s, &kept, &mut line);
-    io::write_all(STDOUT_FILENO, &line[..n]);
+    if !io::write_all(STDOUT_FILENO, &line[..n]) {
+        os::fail(b"write");
+    }
 }

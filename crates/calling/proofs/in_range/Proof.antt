@@ -1,5 +1,5 @@
 -- `calling::in_range` meets its contract. Assumes nothing.
-use mathlib.Core.Path.{_≡_, refl, sym, ap, subst, _∙_}
+use mathlib.Core.Path.{ap, _∙_}
 use Rattle.input.specs.Contract.{fitted}
 use Rattle.input.specs.declared.Input.{Input}
 use Rattle.output.specs.declared.Output.{Output}

@@ -1,8 +1,7 @@
 -- `echo::of_byte` meets its contract. Assumes nothing.
 use Rattle.echo.proofs.Laws.{shows-as, shows-none, echo-set, echo-clear}
-use Rattle.rules.specs.Echo.{visible, echoOf, storedEcho, rubout}
-use mathlib.Core.List.{List, [], _∷_, _++_}
-use mathlib.Core.Path.{_≡_, refl, sym, ap, _∙_}
+use Rattle.rules.specs.Echo.{visible, echoOf}
+use mathlib.Core.List.{[]}
 use borrow.Author.Needs.{needs}
 use Rattle.echo.proofs.of_byte.Statement.{statement}
 use Rattle.echo.proofs.of_byte.Tie as tie

@@ -1,9 +1,8 @@
 -- `echo::of_erased` meets its contract. Assumes nothing.
 use Rattle.echo.proofs.Laws.{shows-as, shows-none, erased-rubs, erased-own, erased-clear}
-use Rattle.echo.specs.Contract.{bytesOf, erasedEcho, killedEcho}
-use Rattle.rules.specs.Echo.{visible, echoOf, storedEcho, rubout}
-use mathlib.Core.List.{List, [], _∷_, _++_}
-use mathlib.Core.Path.{_≡_, refl, sym, ap, _∙_}
+use Rattle.echo.specs.Contract.{erasedEcho}
+use Rattle.rules.specs.Echo.{visible, rubout}
+use mathlib.Core.List.{[]}
 use borrow.Author.Needs.{needs}
 use Rattle.echo.proofs.of_erased.Statement.{statement}
 use Rattle.echo.proofs.of_erased.Tie as tie

@@ -1,9 +1,8 @@
 -- `echo::of_killed` meets its contract. Assumes nothing.
 use Rattle.echo.proofs.Laws.{shows-as, shows-none, killed-rubs, killed-line, killed-own, killed-clear}
-use Rattle.echo.specs.Contract.{bytesOf, erasedEcho, killedEcho}
-use Rattle.rules.specs.Echo.{visible, echoOf, storedEcho, rubout}
-use mathlib.Core.List.{List, [], _∷_, _++_}
-use mathlib.Core.Path.{_≡_, refl, sym, ap, _∙_}
+use Rattle.echo.specs.Contract.{killedEcho}
+use Rattle.rules.specs.Echo.{visible, rubout}
+use mathlib.Core.List.{[], _∷_, _++_}
 use borrow.Author.Needs.{needs}
 use Rattle.echo.proofs.of_killed.Statement.{statement}
 use Rattle.echo.proofs.of_killed.Tie as tie

@@ -1,8 +1,7 @@
 -- `echo::of_stored` meets its contract. Assumes nothing.
 use Rattle.echo.proofs.Laws.{shows-as, shows-none, stored-set, stored-newline, stored-clear}
-use Rattle.rules.specs.Echo.{visible, echoOf, storedEcho, rubout}
-use mathlib.Core.List.{List, [], _∷_, _++_}
-use mathlib.Core.Path.{_≡_, refl, sym, ap, _∙_}
+use Rattle.rules.specs.Echo.{visible, storedEcho}
+use mathlib.Core.List.{[], _∷_}
 use borrow.Author.Needs.{needs}
 use Rattle.echo.proofs.of_stored.Statement.{statement}
 use Rattle.echo.proofs.of_stored.Tie as tie

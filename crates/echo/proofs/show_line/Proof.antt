@@ -1,10 +1,10 @@
 -- `echo::show_line` meets its contract. Assumes nothing.
 use Rattle.echo.proofs.Laws.{shows-as}
 use Prim.Native.Nat.{ℕ}
-use mathlib.Core.Bool.{Bool, true, false, cond}
-use Rattle.rules.specs.Echo.{visible, echoOf, storedEcho, rubout}
+use mathlib.Core.Bool.{Bool, cond}
+use Rattle.rules.specs.Echo.{visible}
 use mathlib.Core.List.{List, [], _∷_, _++_}
-use mathlib.Core.Path.{_≡_, refl, sym, ap, _∙_}
+use mathlib.Core.Path.{sym, ap, _∙_}
 use borrow.Author.Needs.{needs}
 use Rattle.echo.proofs.show_line.Statement.{statement}
 use Rattle.echo.proofs.show_line.Tie as tie

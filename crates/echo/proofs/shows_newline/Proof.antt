@@ -1,6 +1,5 @@
 -- `echo::shows_newline` meets its contract. Assumes nothing.
 use Rattle.echo.proofs.Laws.{all-three, not-second, not-first}
-use borrow.Author.Tests.{eq-eqb, ne-eqb}
 use Rattle.echo.proofs.shows_newline.Statement.{statement}
 use Rattle.echo.proofs.shows_newline.Tie as tie
 use Rattle.echo.proofs.shows_newline.Reads as reads

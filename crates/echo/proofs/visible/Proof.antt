@@ -1,6 +1,5 @@
 -- `echo::visible` meets its contract. Assumes nothing.
 use Rattle.echo.proofs.Laws.{visible-caret, visible-plain}
-use mathlib.Core.Path.{_≡_, refl, sym, ap, _∙_}
 use borrow.Author.Needs.{needs}
 use Rattle.echo.proofs.visible.Statement.{statement}
 use Rattle.echo.proofs.visible.Tie as tie

@@ -1,5 +1,5 @@
 -- `output::cap` meets its contract. Assumes nothing.
-use borrow.Author.Tests.{eq-eqb, ne-eqb, lt-ltb, le-ltb}
+use borrow.Author.Tests.{lt-ltb, le-ltb}
 use borrow.Author.Needs.{needs}
 use Rattle.output.proofs.cap.Statement.{statement}
 use Rattle.output.proofs.cap.Tie as tie

@@ -1,5 +1,5 @@
 -- `output::carriage_return` meets its contract. Assumes nothing.
-use borrow.Author.Tests.{eq-eqb, ne-eqb, lt-ltb, le-ltb}
+use borrow.Author.Tests.{eq-eqb, ne-eqb}
 use Rattle.output.proofs.carriage_return.Statement.{statement}
 use Rattle.output.proofs.carriage_return.Tie as tie
 use Rattle.output.proofs.carriage_return.Reads as reads

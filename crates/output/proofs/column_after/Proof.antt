@@ -3,7 +3,7 @@ use Prim.Native.Nat.{ℕ}
 use Rattle.output.specs.declared.Expansion.{Expansion}
 use Rattle.output.specs.Contract.{bytesOf}
 use Rattle.rules.specs.Output.{columnAfter, columnsAfter}
-use mathlib.Core.Path.{_≡_, refl, sym, ap, _∙_}
+use mathlib.Core.Path.{sym, ap, _∙_}
 use borrow.Author.Needs.{needs}
 use Rattle.output.proofs.column_after.Statement.{statement}
 use Rattle.output.proofs.column_after.Tie as tie

@@ -5,8 +5,8 @@ use lib.ListN.{replicate}
 use native.Mathlib.Omega.{arith}
 use native.Mathlib.Nat.{le-antisymm}
 use Prim.Native.Nat.{ℕ, _≤_, _-_}
-use Rattle.rules.specs.Output.{columnAfter, columnsAfter}
-use mathlib.Core.Path.{_≡_, refl, sym, ap, _∙_}
+use Rattle.rules.specs.Output.{columnsAfter}
+use mathlib.Core.Path.{_≡_, refl, ap, _∙_}
 use Rattle.output.proofs.column_after_spaces.Statement.{statement}
 use Rattle.output.proofs.column_after_spaces.Tie as tie
 use Rattle.output.proofs.column_after_spaces.Reads as reads

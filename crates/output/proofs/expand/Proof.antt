@@ -1,8 +1,7 @@
 -- `output::expand` meets its contract. Assumes nothing.
 use Rattle.output.proofs.Expansions.{expand-tab}
-use mathlib.Core.Path.{_≡_, refl, sym, ap, _∙_}
 use Rattle.rules.specs.Output.{expand}
-use borrow.Author.Tests.{eq-eqb, ne-eqb, lt-ltb, le-ltb}
+use borrow.Author.Tests.{eq-eqb, ne-eqb}
 use borrow.Author.Needs.{needs}
 use Rattle.output.proofs.expand.Statement.{statement}
 use Rattle.output.proofs.expand.Tie as tie

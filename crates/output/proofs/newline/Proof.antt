@@ -1,5 +1,5 @@
 -- `output::newline` meets its contract. Assumes nothing.
-use borrow.Author.Tests.{eq-eqb, ne-eqb, lt-ltb, le-ltb}
+use borrow.Author.Tests.{eq-eqb, ne-eqb}
 use Rattle.output.proofs.newline.Statement.{statement}
 use Rattle.output.proofs.newline.Tie as tie
 use Rattle.output.proofs.newline.Reads as reads

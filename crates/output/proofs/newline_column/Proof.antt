@@ -1,5 +1,4 @@
 -- `output::newline_column` meets its contract. Assumes nothing.
-use mathlib.Core.Path.{_≡_, refl, sym, ap, _∙_}
 use borrow.Author.Needs.{needs}
 use Rattle.output.proofs.newline_column.Statement.{statement}
 use Rattle.output.proofs.newline_column.Tie as tie

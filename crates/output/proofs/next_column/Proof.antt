@@ -1,7 +1,7 @@
 -- `output::next_column` meets its contract. Assumes nothing.
 use Rattle.output.proofs.Expansions.{column-newline}
-use Rattle.rules.specs.Output.{columnAfter, columnsAfter}
-use mathlib.Core.Path.{_≡_, refl, sym, ap, _∙_}
+use Rattle.rules.specs.Output.{columnAfter}
+use mathlib.Core.Path.{_∙_}
 use borrow.Author.Tests.{eq-eqb, ne-eqb, lt-ltb, le-ltb}
 use borrow.Author.Needs.{needs}
 use Rattle.output.proofs.next_column.Statement.{statement}

@@ -2,7 +2,7 @@
 use Rattle.output.specs.declared.Expansion.{Expansion}
 use Rattle.output.specs.Contract.{bytesOf}
 use lib.ListN.{length, length-replicate}
-use mathlib.Core.Path.{_≡_, refl, sym, ap, _∙_}
+use mathlib.Core.Path.{sym, ap, _∙_}
 use borrow.Author.Needs.{needs}
 use Rattle.output.proofs.width.Statement.{statement}
 use Rattle.output.proofs.width.Tie as tie

@@ -2,7 +2,7 @@
 use Rattle.storing.proofs.Laws.{flushed-of}
 use mathlib.Core.Bool.{Bool}
 use Rattle.rules.specs.Flushing as flushing
-use mathlib.Core.Path.{_≡_, refl, sym, ap, _∙_}
+use mathlib.Core.Path.{ap, _∙_}
 use borrow.Author.Needs.{needs}
 use Rattle.storing.proofs.flush_input.Statement.{statement}
 use Rattle.storing.proofs.flush_input.Tie as tie

@@ -1,6 +1,5 @@
 -- `storing::overflow` meets its contract. Assumes nothing.
 use Rattle.storing.proofs.Laws.{bell-of, flushes-of}
-use mathlib.Core.Path.{_≡_, refl, sym, ap, _∙_}
 use borrow.Author.Needs.{needs}
 use Rattle.storing.proofs.overflow.Statement.{statement}
 use Rattle.storing.proofs.overflow.Tie as tie

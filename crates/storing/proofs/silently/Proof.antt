@@ -3,7 +3,6 @@ use Rattle.storing.proofs.Laws.{unit-room, stored-unit, dropped-unit, u
 use mathlib.Core.List.{[]}
 use Rattle.input.specs.Contract as input
 use lib.ListN.{length}
-use mathlib.Core.Path.{_≡_, ap}
 use borrow.Author.Needs.{needs}
 use Rattle.storing.proofs.silently.Statement.{statement}
 use Rattle.storing.proofs.silently.Tie as tie

@@ -3,6 +3,7 @@ use Rattle.tracer.proofs.Laws.{fed-on, fed-further}
 use Rattle.stream.proofs.Pieces.{Passing, passing-begins, passing-next, passing-done}
 use lib.Seq.{length-take-le}
 use lib.ListN.{length, drop, length-drop, length-take}
+use mathlib.Core.Bool.{false≢true}
 use mathlib.Core.Path.{_≡_, refl, sym, _∙_}
 use Prim.Native.Nat.{_-_}
 use native.Mathlib.Omega.{arith}
@@ -19,69 +20,65 @@ Inv-loop bytes₀ marks₀ out₀ kept₀ piece line₀ s₀ at₀ bytes marks o
 abbrev μ-loop : tie.MeasureT-loop
 μ-loop bytes₀ marks₀ out₀ kept₀ piece line₀ s₀ at₀ bytes marks out kept line s at = length piece - at
 
--- src/main.rt:20:5
 loop-holds : tie.Need-loop-holds Inv-loop μ-loop
 loop-holds c = (passing-begins (c .before .before .before .before .args .g) (c .before .before .before .before .args .bytes .now) (c .before .before .before .before .args .marks .now) (c .before .before .before .before .args .out .now) (c .before .before .before .before .args .kept .now) (c .before .before .before .before .args .piece .now), refl, refl, refl, refl)
 
--- src/main.rt:21:58
 sub-feed : tie.Need-sub-feed Inv-loop μ-loop
 sub-feed c = omega (arith, (c .before .before .before .before .loop-test .taken))
 
--- src/main.rt:21:58
 part-feed-start : tie.Need-part-feed-start Inv-loop μ-loop
 part-feed-start c = omega (arith, (c .before .before .before .before .loop-test .taken))
 
--- src/main.rt:21:58
 part-feed-end : tie.Need-part-feed-end Inv-loop μ-loop
 part-feed-end c = omega arith
 
--- src/main.rt:21:72
 slice-aggregate-feed : tie.Need-slice-aggregate-feed Inv-loop μ-loop
 slice-aggregate-feed c = sym (c .before .before .before .before .before .before .before .loop .inv .1)
 
--- src/main.rt:21:13
 feed-requires : tie.Need-feed-requires Inv-loop μ-loop
 feed-requires c κs = tt
 
--- src/main.rt:23:38
 array-share-prefix-line : tie.Need-array-share-prefix-line Inv-loop μ-loop
 array-share-prefix-line c = omega (arith, (c .before .before .before .before .before .before .before .feed .ensures .printed .count), (c .before .before .before .before .before .before .before .before .before .before .before .before .before .before .before .loop .inv .1), (c .before .before .before .before .before .before .before .feed .kept .1 .1 .1 .1 .1 .1 .0))
 
--- src/main.rt:23:38
 slice-aggregate-write-all : tie.Need-slice-aggregate-write-all Inv-loop μ-loop
 slice-aggregate-write-all c = sym (length-take-le ((c .before .before .before .before .before .before .before .before .feed .result .length)) ((c .before .before .before .before .before .before .before .before .feed .last .1 .1 .1 .1 .1 .1 .0)) (omega (arith, (c .before .before .before .before .before .before .before .before .feed .ensures .printed .count), (c .before .before .before .before .before .before .before .before .feed .kept .1 .1 .1 .1 .1 .1 .0))))
 
--- src/main.rt:23:9
 write-all-requires : tie.Need-write-all-requires Inv-loop μ-loop
 write-all-requires c κs = tt
 
--- src/main.rt:25:9
 add-at : tie.Need-add-at Inv-loop μ-loop
 add-at c = omega (arith, (c .before .before .before .before .before .before .before .before .before .before .before .feed .ensures .used), (c .before .before .before .before .before .before .before .before .before .before .before .before .before .before .before .before .before .before .loop-test .taken), (c .before .before .before .before .before .before .before .before .before .before .before .before .before .before .before .before .before .before .before .loop .inv .0 .upto), (c .before .before .before .before .before .before .before .before .before .before .before .before .before .before .before .before .before .before .before .before .before .before .before .before .good .1 .1 .1 .1 .1 .0), length-drop (c .before .before .before .before .before .before .before .before .before .before .before .before .before .before .before .before .before .before .before .loop .at) (c .before .before .before .before .before .before .before .before .before .before .before .before .before .before .before .before .before .before .before .before .before .before .before .before .args .piece .now), length-take (length (c .before .before .before .before .before .before .before .before .before .before .before .before .before .before .before .before .before .before .before .before .before .before .before .before .args .piece .now) - (c .before .before .before .before .before .before .before .before .before .before .before .before .before .before .before .before .before .before .before .loop .at)) (drop (c .before .before .before .before .before .before .before .before .before .before .before .before .before .before .before .before .before .before .before .loop .at) (c .before .before .before .before .before .before .before .before .before .before .before .before .before .before .before .before .before .before .before .before .before .before .before .before .args .piece .now)))
 
--- src/main.rt:20:5
-loop-less : tie.Need-loop-less Inv-loop μ-loop
-loop-less c = fed-further (c .before .before .before .before .before .before .before .before .before .before .before .before .before .before .before .before .before .before .before .loop .s) (c .before .before .before .before .before .before .before .before .before .before .before .before .before .before .before .before .before .before .before .loop .bytes) (c .before .before .before .before .before .before .before .before .before .before .before .before .before .before .before .before .before .before .before .loop .marks) (c .before .before .before .before .before .before .before .before .before .before .before .before .before .before .before .before .before .before .before .loop .out) (c .before .before .before .before .before .before .before .before .before .before .before .before .before .before .before .before .before .before .before .loop .kept) (c .before .before .before .before .before .before .before .before .before .before .before .before .before .before .before .before .before .before .before .before .before .before .before .before .args .piece .now) (c .before .before .before .before .before .before .before .before .before .before .before .before .before .before .before .before .before .before .before .loop .at) (c .before .before .before .before .before .before .before .before .before .before .before .before .before .before .before .before .before .before .before .loop .line) (c .before .before .before .before .before .before .before .before .before .before .before .feed .result) (c .before .before .before .before .before .before .before .before .before .before .before .feed .last .1 .0) (c .before .before .before .before .before .before .before .before .before .before .before .feed .last .1 .1 .0) (c .before .before .before .before .before .before .before .before .before .before .before .feed .last .1 .1 .1 .0) (c .before .before .before .before .before .before .before .before .before .before .before .feed .last .1 .1 .1 .1 .0) (c .before .before .before .before .before .before .before .before .before .before .before .feed .last .1 .1 .1 .1 .1 .1 .0) (c .before .before .before .before .before .before .before .before .before .before .before .before .before .before .before .before .before .before .loop-test .taken) (fed-on (c .before .before .before .before .before .before .before .before .before .before .before .before .before .before .before .before .before .before .before .loop .s) (c .before .before .before .before .before .before .before .before .before .before .before .before .before .before .before .before .before .before .before .loop .bytes) (c .before .before .before .before .before .before .before .before .before .before .before .before .before .before .before .before .before .before .before .loop .marks) (c .before .before .before .before .before .before .before .before .before .before .before .before .before .before .before .before .before .before .before .loop .out) (c .before .before .before .before .before .before .before .before .before .before .before .before .before .before .before .before .before .before .before .loop .kept) (c .before .before .before .before .before .before .before .before .before .before .before .before .before .before .before .before .before .before .before .before .before .before .before .before .args .piece .now) (c .before .before .before .before .before .before .before .before .before .before .before .before .before .before .before .before .before .before .before .loop .at) (c .before .before .before .before .before .before .before .before .before .before .before .before .before .before .before .before .before .before .before .loop .line) (c .before .before .before .before .before .before .before .before .before .before .before .feed .result) (c .before .before .before .before .before .before .before .before .before .before .before .feed .last .1 .0) (c .before .before .before .before .before .before .before .before .before .before .before .feed .last .1 .1 .0) (c .before .before .before .before .before .before .before .before .before .before .before .feed .last .1 .1 .1 .0) (c .before .before .before .before .before .before .before .before .before .before .before .feed .last .1 .1 .1 .1 .0) (c .before .before .before .before .before .before .before .before .before .before .before .feed .last .1 .1 .1 .1 .1 .1 .0) (c .before .before .before .before .before .before .before .before .before .before .before .feed .ensures))
-
--- src/main.rt:20:5
-loop-again : tie.Need-loop-again Inv-loop μ-loop
-loop-again c = (passing-next (c .before .before .before .before .before .before .before .before .before .before .before .before .before .before .before .before .before .before .before .before .before .before .before .before .args .g) (c .before .before .before .before .before .before .before .before .before .before .before .before .before .before .before .before .before .before .before .before .before .before .before .before .args .bytes .now) (c .before .before .before .before .before .before .before .before .before .before .before .before .before .before .before .before .before .before .before .before .before .before .before .before .args .marks .now) (c .before .before .before .before .before .before .before .before .before .before .before .before .before .before .before .before .before .before .before .before .before .before .before .before .args .out .now) (c .before .before .before .before .before .before .before .before .before .before .before .before .before .before .before .before .before .before .before .before .before .before .before .before .args .kept .now) (c .before .before .before .before .before .before .before .before .before .before .before .before .before .before .before .before .before .before .before .before .before .before .before .before .args .piece .now) (c .before .before .before .before .before .before .before .before .before .before .before .before .before .before .before .before .before .before .before .loop .at) (c .before .before .before .before .before .before .before .before .before .before .before .before .before .before .before .before .before .before .before .loop .s) (c .before .before .before .before .before .before .before .before .before .before .before .before .before .before .before .before .before .before .before .loop .bytes) (c .before .before .before .before .before .before .before .before .before .before .before .before .before .before .before .before .before .before .before .loop .marks) (c .before .before .before .before .before .before .before .before .before .before .before .before .before .before .before .before .before .before .before .loop .out) (c .before .before .before .before .before .before .before .before .before .before .before .before .before .before .before .before .before .before .before .loop .kept) (c .before .before .before .before .before .before .before .before .before .before .before .before .before .before .before .before .before .before .before .loop .inv .0) (c .before .before .before .before .before .before .before .before .before .before .before .before .before .before .before .before .before .before .before .loop .line) (c .before .before .before .before .before .before .before .before .before .before .before .feed .result) (c .before .before .before .before .before .before .before .before .before .before .before .feed .last .1 .0) (c .before .before .before .before .before .before .before .before .before .before .before .feed .last .1 .1 .0) (c .before .before .before .before .before .before .before .before .before .before .before .feed .last .1 .1 .1 .0) (c .before .before .before .before .before .before .before .before .before .before .before .feed .last .1 .1 .1 .1 .0) (c .before .before .before .before .before .before .before .before .before .before .before .feed .last .1 .1 .1 .1 .1 .1 .0) (length-drop (c .before .before .before .before .before .before .before .before .before .before .before .before .before .before .before .before .before .before .before .loop .at) (c .before .before .before .before .before .before .before .before .before .before .before .before .before .before .before .before .before .before .before .before .before .before .before .before .args .piece .now)) (fed-on (c .before .before .before .before .before .before .before .before .before .before .before .before .before .before .before .before .before .before .before .loop .s) (c .before .before .before .before .before .before .before .before .before .before .before .before .before .before .before .before .before .before .before .loop .bytes) (c .before .before .before .before .before .before .before .before .before .before .before .before .before .before .before .before .before .before .before .loop .marks) (c .before .before .before .before .before .before .before .before .before .before .before .before .before .before .before .before .before .before .before .loop .out) (c .before .before .before .before .before .before .before .before .before .before .before .before .before .before .before .before .before .before .before .loop .kept) (c .before .before .before .before .before .before .before .before .before .before .before .before .before .before .before .before .before .before .before .before .before .before .before .before .args .piece .now) (c .before .before .before .before .before .before .before .before .before .before .before .before .before .before .before .before .before .before .before .loop .at) (c .before .before .before .before .before .before .before .before .before .before .before .before .before .before .before .before .before .before .before .loop .line) (c .before .before .before .before .before .before .before .before .before .before .before .feed .result) (c .before .before .before .before .before .before .before .before .before .before .before .feed .last .1 .0) (c .before .before .before .before .before .before .before .before .before .before .before .feed .last .1 .1 .0) (c .before .before .before .before .before .before .before .before .before .before .before .feed .last .1 .1 .1 .0) (c .before .before .before .before .before .before .before .before .before .before .before .feed .last .1 .1 .1 .1 .0) (c .before .before .before .before .before .before .before .before .before .before .before .feed .last .1 .1 .1 .1 .1 .1 .0) (c .before .before .before .before .before .before .before .before .before .before .before .feed .ensures)), (c .before .before .before .before .before .before .before .before .before .before .before .feed .kept .1 .1 .1 .1 .1 .1 .0) ∙ (c .before .before .before .before .before .before .before .before .before .before .before .before .before .before .before .before .before .before .before .loop .inv .1), (c .before .before .before .before .before .before .before .before .before .before .before .feed .kept .1 .0) ∙ (c .before .before .before .before .before .before .before .before .before .before .before .before .before .before .before .before .before .before .before .loop .inv .2), (c .before .before .before .before .before .before .before .before .before .before .before .feed .kept .1 .1 .0) ∙ (c .before .before .before .before .before .before .before .before .before .before .before .before .before .before .before .before .before .before .before .loop .inv .3), (c .before .before .before .before .before .before .before .before .before .before .before .feed .kept .1 .1 .1 .0) ∙ (c .before .before .before .before .before .before .before .before .before .before .before .before .before .before .before .before .before .before .before .loop .inv .4))
-
--- src/main.rt:9:1
 same-length : tie.Need-same-length Inv-loop μ-loop
-same-length c = (c .before .loop .inv .2)
+same-length c = (c .before .before .before .before .before .before .before .before .before .before .before .before .feed .kept .1 .0) ∙ (c .before .before .before .before .before .before .before .before .before .before .before .before .before .before .before .before .before .before .before .before .loop .inv .2)
 
--- src/main.rt:9:1
 same-length-2 : tie.Need-same-length-2 Inv-loop μ-loop
-same-length-2 c = (c .before .loop .inv .3)
+same-length-2 c = (c .before .before .before .before .before .before .before .before .before .before .before .before .feed .kept .1 .1 .0) ∙ (c .before .before .before .before .before .before .before .before .before .before .before .before .before .before .before .before .before .before .before .before .loop .inv .3)
 
--- src/main.rt:9:1
 same-length-3 : tie.Need-same-length-3 Inv-loop μ-loop
-same-length-3 c = (c .before .loop .inv .4)
+same-length-3 c = (c .before .before .before .before .before .before .before .before .before .before .before .before .feed .kept .1 .1 .1 .0) ∙ (c .before .before .before .before .before .before .before .before .before .before .before .before .before .before .before .before .before .before .before .before .loop .inv .4)
 
--- src/main.rt:9:1
 returns : tie.Need-returns Inv-loop μ-loop
-returns c = passing-done (c .before .before .before .before .before .before .args .g) (c .before .before .before .before .before .before .args .bytes .now) (c .before .before .before .before .before .before .args .marks .now) (c .before .before .before .before .before .before .args .out .now) (c .before .before .before .before .before .before .args .kept .now) (c .before .before .before .before .before .before .args .piece .now) (c .before .loop .at) (c .before .loop .s) (c .before .loop .bytes) (c .before .loop .marks) (c .before .loop .out) (c .before .loop .kept) (c .before .loop .inv .0) (c .loop-test .left)
+returns c = λ e. absurd (false≢true e)
+
+loop-less : tie.Need-loop-less Inv-loop μ-loop
+loop-less c = fed-further (c .before .before .before .before .before .before .before .before .before .before .before .before .before .before .before .before .before .before .before .before .loop .s) (c .before .before .before .before .before .before .before .before .before .before .before .before .before .before .before .before .before .before .before .before .loop .bytes) (c .before .before .before .before .before .before .before .before .before .before .before .before .before .before .before .before .before .before .before .before .loop .marks) (c .before .before .before .before .before .before .before .before .before .before .before .before .before .before .before .before .before .before .before .before .loop .out) (c .before .before .before .before .before .before .before .before .before .before .before .before .before .before .before .before .before .before .before .before .loop .kept) (c .before .before .before .before .before .before .before .before .before .before .before .before .before .before .before .before .before .before .before .before .before .before .before .before .before .args .piece .now) (c .before .before .before .before .before .before .before .before .before .before .before .before .before .before .before .before .before .before .before .before .loop .at) (c .before .before .before .before .before .before .before .before .before .before .before .before .before .before .before .before .before .before .before .before .loop .line) (c .before .before .before .before .before .before .before .before .before .before .before .before .feed .result) (c .before .before .before .before .before .before .before .before .before .before .before .before .feed .last .1 .0) (c .before .before .before .before .before .before .before .before .before .before .before .before .feed .last .1 .1 .0) (c .before .before .before .before .before .before .before .before .before .before .before .before .feed .last .1 .1 .1 .0) (c .before .before .before .before .before .before .before .before .before .before .before .before .feed .last .1 .1 .1 .1 .0) (c .before .before .before .before .before .before .before .before .before .before .before .before .feed .last .1 .1 .1 .1 .1 .1 .0) (c .before .before .before .before .before .before .before .before .before .before .before .before .before .before .before .before .before .before .before .loop-test .taken) (fed-on (c .before .before .before .before .before .before .before .before .before .before .before .before .before .before .before .before .before .before .before .before .loop .s) (c .before .before .before .before .before .before .before .before .before .before .before .before .before .before .before .before .before .before .before .before .loop .bytes) (c .before .before .before .before .before .before .before .before .before .before .before .before .before .before .before .before .before .before .before .before .loop .marks) (c .before .before .before .before .before .before .before .before .before .before .before .before .before .before .before .before .before .before .before .before .loop .out) (c .before .before .before .before .before .before .before .before .before .before .before .before .before .before .before .before .before .before .before .before .loop .kept) (c .before .before .before .before .before .before .before .before .before .before .before .before .before .before .before .before .before .before .before .before .before .before .before .before .before .args .piece .now) (c .before .before .before .before .before .before .before .before .before .before .before .before .before .before .before .before .before .before .before .before .loop .at) (c .before .before .before .before .before .before .before .before .before .before .before .before .before .before .before .before .before .before .before .before .loop .line) (c .before .before .before .before .before .before .before .before .before .before .before .before .feed .result) (c .before .before .before .before .before .before .before .before .before .before .before .before .feed .last .1 .0) (c .before .before .before .before .before .before .before .before .before .before .before .before .feed .last .1 .1 .0) (c .before .before .before .before .before .before .before .before .before .before .before .before .feed .last .1 .1 .1 .0) (c .before .before .before .before .before .before .before .before .before .before .before .before .feed .last .1 .1 .1 .1 .0) (c .before .before .before .before .before .before .before .before .before .before .before .before .feed .last .1 .1 .1 .1 .1 .1 .0) (c .before .before .before .before .before .before .before .before .before .before .before .before .feed .ensures))
+
+loop-again : tie.Need-loop-again Inv-loop μ-loop
+loop-again c = (passing-next (c .before .before .before .before .before .before .before .before .before .before .before .before .before .before .before .before .before .before .before .before .before .before .before .before .before .args .g) (c .before .before .before .before .before .before .before .before .before .before .before .before .before .before .before .before .before .before .before .before .before .before .before .before .before .args .bytes .now) (c .before .before .before .before .before .before .before .before .before .before .before .before .before .before .before .before .before .before .before .before .before .before .before .before .before .args .marks .now) (c .before .before .before .before .before .before .before .before .before .before .before .before .before .before .before .before .before .before .before .before .before .before .before .before .before .args .out .now) (c .before .before .before .before .before .before .before .before .before .before .before .before .before .before .before .before .before .before .before .before .before .before .before .before .before .args .kept .now) (c .before .before .before .before .before .before .before .before .before .before .before .before .before .before .before .before .before .before .before .before .before .before .before .before .before .args .piece .now) (c .before .before .before .before .before .before .before .before .before .before .before .before .before .before .before .before .before .before .before .before .loop .at) (c .before .before .before .before .before .before .before .before .before .before .before .before .before .before .before .before .before .before .before .before .loop .s) (c .before .before .before .before .before .before .before .before .before .before .before .before .before .before .before .before .before .before .before .before .loop .bytes) (c .before .before .before .before .before .before .before .before .before .before .before .before .before .before .before .before .before .before .before .before .loop .marks) (c .before .before .before .before .before .before .before .before .before .before .before .before .before .before .before .before .before .before .before .before .loop .out) (c .before .before .before .before .before .before .before .before .before .before .before .before .before .before .before .before .before .before .before .before .loop .kept) (c .before .before .before .before .before .before .before .before .before .before .before .before .before .before .before .before .before .before .before .before .loop .inv .0) (c .before .before .before .before .before .before .before .before .before .before .before .before .before .before .before .before .before .before .before .before .loop .line) (c .before .before .before .before .before .before .before .before .before .before .before .before .feed .result) (c .before .before .before .before .before .before .before .before .before .before .before .before .feed .last .1 .0) (c .before .before .before .before .before .before .before .before .before .before .before .before .feed .last .1 .1 .0) (c .before .before .before .before .before .before .before .before .before .before .before .before .feed .last .1 .1 .1 .0) (c .before .before .before .before .before .before .before .before .before .before .before .before .feed .last .1 .1 .1 .1 .0) (c .before .before .before .before .before .before .before .before .before .before .before .before .feed .last .1 .1 .1 .1 .1 .1 .0) (length-drop (c .before .before .before .before .before .before .before .before .before .before .before .before .before .before .before .before .before .before .before .before .loop .at) (c .before .before .before .before .before .before .before .before .before .before .before .before .before .before .before .before .before .before .before .before .before .before .before .before .before .args .piece .now)) (fed-on (c .before .before .before .before .before .before .before .before .before .before .before .before .before .before .before .before .before .before .before .before .loop .s) (c .before .before .before .before .before .before .before .before .before .before .before .before .before .before .before .before .before .before .before .before .loop .bytes) (c .before .before .before .before .before .before .before .before .before .before .before .before .before .before .before .before .before .before .before .before .loop .marks) (c .before .before .before .before .before .before .before .before .before .before .before .before .before .before .before .before .before .before .before .before .loop .out) (c .before .before .before .before .before .before .before .before .before .before .before .before .before .before .before .before .before .before .before .before .loop .kept) (c .before .before .before .before .before .before .before .before .before .before .before .before .before .before .before .before .before .before .before .before .before .before .before .before .before .args .piece .now) (c .before .before .before .before .before .before .before .before .before .before .before .before .before .before .before .before .before .before .before .before .loop .at) (c .before .before .before .before .before .before .before .before .before .before .before .before .before .before .before .before .before .before .before .before .loop .line) (c .before .before .before .before .before .before .before .before .before .before .before .before .feed .result) (c .before .before .before .before .before .before .before .before .before .before .before .before .feed .last .1 .0) (c .before .before .before .before .before .before .before .before .before .before .before .before .feed .last .1 .1 .0) (c .before .before .before .before .before .before .before .before .before .before .before .before .feed .last .1 .1 .1 .0) (c .before .before .before .before .before .before .before .before .before .before .before .before .feed .last .1 .1 .1 .1 .0) (c .before .before .before .before .before .before .before .before .before .before .before .before .feed .last .1 .1 .1 .1 .1 .1 .0) (c .before .before .before .before .before .before .before .before .before .before .before .before .feed .ensures)), (c .before .before .before .before .before .before .before .before .before .before .before .before .feed .kept .1 .1 .1 .1 .1 .1 .0) ∙ (c .before .before .before .before .before .before .before .before .before .before .before .before .before .before .before .before .before .before .before .before .loop .inv .1), (c .before .before .before .before .before .before .before .before .before .before .before .before .feed .kept .1 .0) ∙ (c .before .before .before .before .before .before .before .before .before .before .before .before .before .before .before .before .before .before .before .before .loop .inv .2), (c .before .before .before .before .before .before .before .before .before .before .before .before .feed .kept .1 .1 .0) ∙ (c .before .before .before .before .before .before .before .before .before .before .before .before .before .before .before .before .before .before .before .before .loop .inv .3), (c .before .before .before .before .before .before .before .before .before .before .before .before .feed .kept .1 .1 .1 .0) ∙ (c .before .before .before .before .before .before .before .before .before .before .before .before .before .before .before .before .before .before .before .before .loop .inv .4))
+
+same-length-4 : tie.Need-same-length-4 Inv-loop μ-loop
+same-length-4 c = (c .before .loop .inv .2)
+
+same-length-5 : tie.Need-same-length-5 Inv-loop μ-loop
+same-length-5 c = (c .before .loop .inv .3)
+
+same-length-6 : tie.Need-same-length-6 Inv-loop μ-loop
+same-length-6 c = (c .before .loop .inv .4)
+
+returns-2 : tie.Need-returns-2 Inv-loop μ-loop
+returns-2 c = λ e. passing-done (c .before .before .before .before .before .before .args .g) (c .before .before .before .before .before .before .args .bytes .now) (c .before .before .before .before .before .before .args .marks .now) (c .before .before .before .before .before .before .args .out .now) (c .before .before .before .before .before .before .args .kept .now) (c .before .before .before .before .before .before .args .piece .now) (c .before .loop .at) (c .before .loop .s) (c .before .loop .bytes) (c .before .loop .marks) (c .before .loop .out) (c .before .loop .kept) (c .before .loop .inv .0) (c .loop-test .left)
 
 pub pass-spec : {M : Type 1} → statement M
 pass-spec =
@@ -99,9 +96,13 @@ pass-spec =
     slice-aggregate-write-all
     write-all-requires
     add-at
-    loop-less
-    loop-again
     same-length
     same-length-2
     same-length-3
-    returns)
+    returns
+    loop-less
+    loop-again
+    same-length-4
+    same-length-5
+    same-length-6
+    returns-2)

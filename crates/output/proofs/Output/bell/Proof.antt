@@ -1,12 +1,8 @@
 -- `output::Output::bell` meets its contract. Assumes nothing.
-use Rattle.output.proofs.Laws.{range-len, fits-of, full-of}
-use Rattle.output.specs.Contract.{get, put, Becomes, bytesOf}
-use Rattle.rules.specs.Output.{queued, queuedWhole, processed}
-use mathlib.Core.List.{List, [], _∷_, _++_}
-use lib.ListN.{length, replicate, length-replicate, length-append}
+use Rattle.output.proofs.Laws.{fits-of, full-of}
+use mathlib.Core.List.{[], _∷_}
 use native.Mathlib.Omega.{arith}
-use Prim.Native.Nat.{ℕ, _+_, _-_, _<_, _≤_, _%_, min}
-use mathlib.Core.Path.{_≡_, refl, sym, ap, _∙_}
+use Prim.Native.Nat.{_-_}
 use borrow.Author.Needs.{needs}
 use Rattle.output.proofs.Output.bell.Statement.{statement}
 use Rattle.output.proofs.Output.bell.Tie as tie

@@ -1,6 +1,6 @@
 -- `output::Output::flush` meets its contract. Assumes nothing.
 use Rattle.queue.specs.declared.Queue.{Queue}
-use mathlib.Core.Path.{_≡_, refl, sym, ap, _∙_}
+use mathlib.Core.Path.{ap}
 use borrow.Author.Needs.{needs}
 use Rattle.output.proofs.Output.flush.Statement.{statement}
 use Rattle.output.proofs.Output.flush.Tie as tie

@@ -1,7 +1,7 @@
 -- `output::Output::fresh` meets its contract. Assumes nothing.
 use mathlib.Core.Bool.{false}
 use Rattle.queue.specs.declared.Queue.{Queue}
-use mathlib.Core.Path.{_≡_, refl, sym, ap, _∙_}
+use mathlib.Core.Path.{ap}
 use borrow.Author.Needs.{needs}
 use Rattle.output.proofs.Output.fresh.Statement.{statement}
 use Rattle.output.proofs.Output.fresh.Tie as tie

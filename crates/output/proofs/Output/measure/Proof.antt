@@ -1,9 +1,9 @@
 -- `output::Output::measure` meets its contract. Assumes nothing.
 use Rattle.output.proofs.Expansions.{measure-begins}
-use Prim.Native.Nat.{ℕ, _+_, _-_, _<_, _≤_, _%_, min}
+use Prim.Native.Nat.{_-_}
 use native.Mathlib.Omega.{arith}
 use Rattle.queue.specs.declared.Queue.{Queue}
-use mathlib.Core.Path.{_≡_, refl, sym, ap, _∙_}
+use mathlib.Core.Path.{ap}
 use borrow.Author.Needs.{needs}
 use Rattle.output.proofs.Output.measure.Statement.{statement}
 use Rattle.output.proofs.Output.measure.Tie as tie

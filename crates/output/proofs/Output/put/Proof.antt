@@ -1,13 +1,13 @@
 -- `output::Output::put` meets its contract. Assumes nothing.
 use Rattle.output.proofs.Laws.{turns, range-none, get-length, len-now, same-size, twice}
 use Rattle.output.specs.declared.Expansion.{Expansion}
-use Rattle.output.specs.Contract.{get, put, Becomes, bytesOf}
-use Rattle.rules.specs.Output.{queued, queuedWhole, processed, expand}
-use mathlib.Core.List.{List, [], _∷_, _++_}
-use lib.ListN.{length, replicate, length-replicate}
+use Rattle.output.specs.Contract.{get, put, bytesOf}
+use Rattle.rules.specs.Output.{queued}
+use mathlib.Core.List.{[], _∷_}
+use lib.ListN.{length, length-replicate}
 use native.Mathlib.Omega.{arith}
-use Prim.Native.Nat.{ℕ, _+_, _-_, _<_, _≤_, _%_, min}
-use mathlib.Core.Path.{_≡_, refl, sym, ap, _∙_}
+use Prim.Native.Nat.{_+_, _-_, min}
+use mathlib.Core.Path.{_≡_, ap, _∙_}
 use borrow.Author.Needs.{needs}
 use Rattle.output.proofs.Output.put.Statement.{statement}
 use Rattle.output.proofs.Output.put.Tie as tie

@@ -5,13 +5,13 @@ use Rattle.output.specs.declared.Output.{Output}
 use native.Mathlib.Nat.{le-antisymm}
 use Rattle.output.proofs.Expansions.{replicate-snoc}
 use Rattle.output.proofs.Laws.{range-len, range-get, start-run, same-size, len-now, twice, via-range}
-use Rattle.output.specs.Contract.{get, put, Becomes, bytesOf}
-use Rattle.rules.specs.Output.{queued, queuedWhole, processed}
-use mathlib.Core.List.{List, [], _∷_, _++_}
-use lib.ListN.{length, replicate, length-replicate, length-append}
+use Rattle.output.specs.Contract.{get, Becomes}
+use Rattle.rules.specs.Output.{queued}
+use mathlib.Core.List.{[], _∷_}
+use lib.ListN.{length, replicate, length-replicate}
 use native.Mathlib.Omega.{arith}
-use Prim.Native.Nat.{ℕ, _+_, _-_, _<_, _≤_, _%_, min}
-use mathlib.Core.Path.{_≡_, refl, sym, ap, _∙_}
+use Prim.Native.Nat.{ℕ, _+_, _-_, _≤_, min}
+use mathlib.Core.Path.{_≡_}
 use Rattle.output.proofs.Output.put_spaces.Statement.{statement}
 use Rattle.output.proofs.Output.put_spaces.Tie as tie
 use Rattle.output.proofs.Output.put_spaces.Reads as reads

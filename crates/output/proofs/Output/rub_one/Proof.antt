@@ -1,12 +1,12 @@
 -- `output::Output::rub_one` meets its contract. Assumes nothing.
 use Rattle.output.proofs.Laws.{get-length, len-now, same-size, twice}
-use Rattle.rules.specs.Output.{queued, queuedWhole, processed, expand}
+use Rattle.rules.specs.Output.{queued}
 use lib.ListN.{length}
-use Rattle.output.specs.Contract.{get, put, Becomes, bytesOf}
-use mathlib.Core.List.{List, [], _∷_, _++_}
+use Rattle.output.specs.Contract.{get, Becomes}
+use mathlib.Core.List.{[], _∷_}
 use native.Mathlib.Omega.{arith}
-use Prim.Native.Nat.{ℕ, _+_, _-_, _*_, _<_, _≤_, _%_, min}
-use mathlib.Core.Path.{_≡_, refl, sym, ap, _∙_}
+use Prim.Native.Nat.{_+_, _-_, min}
+use mathlib.Core.Path.{_≡_}
 use borrow.Author.Needs.{needs}
 use Rattle.output.proofs.Output.rub_one.Statement.{statement}
 use Rattle.output.proofs.Output.rub_one.Tie as tie

@@ -3,14 +3,14 @@ use borrow.Author.Needs.{needs}
 use native.Mathlib.Nat.{le-antisymm}
 use Rattle.rules.specs.Echo.{rubout}
 use Rattle.output.proofs.Run.{rubout-plain, rubout-snoc, rubout-length}
-use Rattle.output.proofs.Laws.{range-len, range-get, start-run, same-size, len-now, twice, via-range, becomes, fits-of, full-of}
-use Rattle.rules.specs.Output.{queued, queuedWhole, processed, expand}
+use Rattle.output.proofs.Laws.{range-len, range-get, start-run, same-size, len-now, twice, fits-of, full-of}
+use Rattle.rules.specs.Output.{queued}
 use lib.ListN.{length}
-use Rattle.output.specs.Contract.{get, put, Becomes, bytesOf}
-use mathlib.Core.List.{List, [], _∷_, _++_}
+use Rattle.output.specs.Contract.{get, Becomes}
+use mathlib.Core.List.{[], _∷_}
 use native.Mathlib.Omega.{arith}
-use Prim.Native.Nat.{ℕ, _+_, _-_, _*_, _<_, _≤_, _%_, min}
-use mathlib.Core.Path.{_≡_, refl, sym, ap, _∙_}
+use Prim.Native.Nat.{_+_, _-_, _*_, _≤_, min}
+use mathlib.Core.Path.{_≡_}
 use Rattle.output.proofs.Output.rub_out.Statement.{statement}
 use Rattle.output.proofs.Output.rub_out.Tie as tie
 use Rattle.output.proofs.Output.rub_out.Reads as reads

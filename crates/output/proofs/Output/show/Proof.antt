@@ -7,8 +7,7 @@ use Rattle.output.proofs.Laws.{same-size}
 use Rattle.output.proofs.Run.{Measuring, measuring-next, shows, shows-nothing}
 use lib.ListN.{length}
 use native.Mathlib.Omega.{arith}
-use Prim.Native.Nat.{ℕ, _+_, _-_, _<_, _≤_, _%_, min}
-use mathlib.Core.Path.{_≡_, refl, sym, ap, _∙_}
+use Prim.Native.Nat.{_-_}
 use Rattle.output.proofs.Output.show.Statement.{statement}
 use Rattle.output.proofs.Output.show.Tie as tie
 use Rattle.output.proofs.Output.show.Reads as reads

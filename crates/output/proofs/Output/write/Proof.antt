@@ -4,11 +4,10 @@ use Rattle.output.proofs.Run.{SoFar, start, next, full, done, wrote}
 use Rattle.output.proofs.Laws.{same-size}
 use Rattle.rules.specs.Output.{written}
 use lib.ListN.{length, take}
-use Rattle.output.specs.Contract.{get, put, Becomes, bytesOf}
-use mathlib.Core.List.{List, [], _∷_, _++_}
+use Rattle.output.specs.Contract.{get, put, bytesOf}
 use native.Mathlib.Omega.{arith}
-use Prim.Native.Nat.{ℕ, _+_, _-_, _<_, _≤_, _%_, min}
-use mathlib.Core.Path.{_≡_, refl, sym, ap, _∙_}
+use Prim.Native.Nat.{_-_}
+use mathlib.Core.Path.{_≡_}
 use Rattle.output.proofs.Output.write.Statement.{statement}
 use Rattle.output.proofs.Output.write.Tie as tie
 use Rattle.output.proofs.Output.write.Reads as reads

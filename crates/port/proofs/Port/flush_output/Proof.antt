@@ -1,7 +1,6 @@
 -- `port::Port::flush_output` meets its contract. Assumes nothing.
-use Rattle.output.specs.declared.Output.{Output}
 use Rattle.port.specs.State.{withOutput}
-use mathlib.Core.Path.{_≡_, refl, sym, ap, _∙_}
+use mathlib.Core.Path.{ap, _∙_}
 use borrow.Author.Needs.{needs}
 use Rattle.port.proofs.Port.flush_output.Statement.{statement}
 use Rattle.port.proofs.Port.flush_output.Tie as tie

@@ -1,11 +1,7 @@
 -- `port::Port::fresh` meets its contract. Assumes nothing.
 use Rattle.rules.specs.declared.Waiting.the-variants.{Idle}
 use Rattle.rules.specs.declared.Group.the-variants.{Nobody}
-use Rattle.input.specs.declared.Input.{Input}
-use Rattle.rules.specs.declared.Settings.{Settings}
 use mathlib.Core.Bool.{false}
-use Rattle.output.specs.declared.Output.{Output}
-use mathlib.Core.Path.{_≡_, refl, sym, ap, _∙_}
 use borrow.Author.Needs.{needs}
 use Rattle.port.proofs.Port.fresh.Statement.{statement}
 use Rattle.port.proofs.Port.fresh.Tie as tie

@@ -1,14 +1,13 @@
 -- `port::Port::write_through` meets its contract. Assumes nothing.
 use lib.ListN.{length-drop}
-use Rattle.port.specs.declared.Moved.{Moved}
-use Rattle.port.specs.Contract.{result, written, MovesThrough, first, second, third}
+use Rattle.port.specs.Contract.{result, written}
 use Rattle.port.proofs.Laws.{rest-of}
 use Rattle.port.proofs.Laws.{count-le, size-written, through-of}
 use Rattle.port.specs.Contract.{Outcomes}
-use lib.ListN.{length, take, drop}
-use Prim.Native.Nat.{ℕ, _+_, _-_, _≤_}
+use lib.ListN.{length, drop}
+use Prim.Native.Nat.{_+_, _-_}
 use native.Mathlib.Omega.{arith}
-use mathlib.Core.Path.{_≡_, refl, sym, ap, ap₂, _∙_}
+use mathlib.Core.Path.{_≡_, ap, ap₂, _∙_}
 use borrow.Author.Needs.{needs}
 use Rattle.port.proofs.Port.write_through.Statement.{statement}
 use Rattle.port.proofs.Port.write_through.Tie as tie

@@ -1,10 +1,8 @@
 -- `queue::Queue::drop_newest` meets its contract. Assumes nothing.
 use Rattle.queue.proofs.Laws.{fit-len, fit-head}
 use Rattle.queue.specs.declared.Queue.{Queue}
-use lib.ListN.{length}
-use mathlib.Core.Path.{_≡_, refl, sym, ap, _∙_}
-use Prim.Native.Nat.{ℕ, _+_, _-_, _<_, _≤_, _%_, min}
-use native.Mathlib.Omega.{arith}
+use mathlib.Core.Path.{ap, _∙_}
+use Prim.Native.Nat.{ℕ, _-_, _%_}
 use borrow.Author.Needs.{needs}
 use Rattle.queue.proofs.Queue.drop_newest.Statement.{statement}
 use Rattle.queue.proofs.Queue.drop_newest.Tie as tie

@@ -1,9 +1,7 @@
 -- `queue::Queue::fit` meets its contract. Assumes nothing.
 use Rattle.queue.specs.declared.Queue.{Queue}
-use lib.ListN.{length}
-use mathlib.Core.Path.{_≡_, refl, sym, ap, _∙_}
-use Prim.Native.Nat.{ℕ, _+_, _-_, _<_, _≤_, _%_, min}
-use native.Mathlib.Omega.{arith}
+use mathlib.Core.Path.{ap, _∙_}
+use Prim.Native.Nat.{ℕ, _-_, _%_}
 use borrow.Author.Needs.{needs}
 use Rattle.queue.proofs.Queue.fit.Statement.{statement}
 use Rattle.queue.proofs.Queue.fit.Tie as tie

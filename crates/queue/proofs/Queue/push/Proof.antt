@@ -1,10 +1,9 @@
 -- `queue::Queue::push` meets its contract. Assumes nothing.
 use Rattle.queue.proofs.Laws.{place-lt}
-use native.Mathlib.Nat.{mod-lt}
 use Rattle.queue.proofs.Laws.{fit-len, fit-lt, push-of, push-full-of}
 use lib.ListN.{length}
-use mathlib.Core.Path.{_≡_, refl, sym, ap, _∙_}
-use Prim.Native.Nat.{ℕ, _+_, _-_, _<_, _≤_, _%_, min}
+use mathlib.Core.Path.{_≡_}
+use Prim.Native.Nat.{ℕ, _+_, _-_, min}
 use native.Mathlib.Omega.{arith}
 use borrow.Author.Needs.{needs}
 use Rattle.queue.proofs.Queue.push.Statement.{statement}

@@ -1,11 +1,9 @@
 -- `queue::Queue::push_all` meets its contract. Assumes nothing.
 use Rattle.queue.proofs.Laws.{place-lt}
-use Rattle.queue.proofs.Laws.{Pushing, push-begin, push-next, push-end, push-all-full-of, fit-len, fit-lt}
-use native.Mathlib.Nat.{mod-lt}
+use Rattle.queue.proofs.Laws.{Pushing, push-begin, push-next, push-end, push-all-full-of, fit-len}
 use borrow.Author.Needs.{needs}
 use lib.ListN.{length}
-use mathlib.Core.Path.{_≡_, refl, sym, ap, _∙_}
-use Prim.Native.Nat.{ℕ, _+_, _-_, _<_, _≤_, _%_, min}
+use Prim.Native.Nat.{ℕ, _+_, _-_}
 use native.Mathlib.Omega.{arith}
 use Rattle.queue.proofs.Queue.push_all.Statement.{statement}
 use Rattle.queue.proofs.Queue.push_all.Tie as tie

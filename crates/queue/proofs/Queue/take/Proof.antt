@@ -2,12 +2,10 @@
 use mathlib.Core.Logic.{⊎-elim}
 use Rattle.queue.proofs.Rings.{lt-or-le}
 use Rattle.queue.proofs.Laws.{place-lt}
-use Rattle.queue.proofs.Laws.{Copied, begin, next, end-of, fit-len, fit-lt, fit-head}
-use native.Mathlib.Nat.{mod-lt}
+use Rattle.queue.proofs.Laws.{Copied, begin, next, end-of}
 use borrow.Author.Needs.{needs}
 use lib.ListN.{length}
-use mathlib.Core.Path.{_≡_, refl, sym, ap, _∙_}
-use Prim.Native.Nat.{ℕ, _+_, _-_, _<_, _≤_, _%_, min}
+use Prim.Native.Nat.{ℕ, _+_, _-_, _<_, _≤_}
 use native.Mathlib.Omega.{arith}
 use Rattle.queue.proofs.Queue.take.Statement.{statement}
 use Rattle.queue.proofs.Queue.take.Tie as tie
