@@ -92,20 +92,20 @@ fn one_less(left: u8) -> u8
     left - 1
 }
 
-// The timer a tenth of a second later.
-pub fn lower(t: Timer) -> Timer
-    ensures { λ r. ⌜ r ≡ record { left = t .left - 1 } ⌝ }
-{
-    Timer {
-        left: one_less(t.left),
-    }
-}
-
-// The same of a timer that is lent.
+// The timer a tenth of a second later, where it is lent.
 pub fn tick(t: &mut Timer)
     ensures { λ _. ⌜ now (t .exit) ≡ record { left = now (t .entry) .left - 1 } ⌝ }
 {
     t.left = one_less(t.left);
+}
+
+// The same by value: the timer is lent to `tick`.
+pub fn lower(t: Timer) -> Timer
+    ensures { λ r. ⌜ r ≡ record { left = t .left - 1 } ⌝ }
+{
+    let mut u = t;
+    tick(&mut u);
+    u
 }
 
 // 'While a read waits, each tenth of a second lowers it by one.'
