@@ -12,8 +12,9 @@ use Rattle.rules.specs.Settings.{fresh}
 use Rattle.rules.specs.Refusals.{Reply}
 use Rattle.rules.specs.Step.{Asked, run, after}
 use Rattle.rules.specs.Trace.{Decoded, wellFormed, malformed, aRecord, bodyOf, front, two, answered, line, fullLine, traceFrom}
-use Rattle.secrecy.specs.Statement.{Each, none, more, Quiet, MayDiffer, Brings, Delivered, equal, Alike}
+use Rattle.secrecy.specs.Statement.{Each, none, more, Quiet, MayDiffer, Brings, Alike}
 use Rattle.secrecy.proofs.Theorem.{secrecy}
+use Rattle.secrecy.proofs.Given.{same-delivered}
 use Rattle.stream.proofs.Rules.{fronted, by-front}
 use Rattle.alike.proofs.Given.{record-gives-none}
 use Rattle.alike.specs.Statement.{Rec, encoded, written, Ends, atEnd, inRecord, meant, asked, callsOf, Keeps, RecordsDiffer, PrintedAlike, ends, prints, FromState, settingsAfter, Demand3Traces}
@@ -70,12 +71,8 @@ calls-differing x (r ∷ rs) (t ∷ ts) (more d ds) = calls-one x r t d (calls-d
 ---- Two runs whose replies are alike print alike
 
 module _ (x : Settings) (one other : List Asked) where
-  same-delivered : (l : List ℕ) → Each (Delivered x one other) l l
-  same-delivered [] = none
-  same-delivered (b ∷ l) = more equal (same-delivered l)
-
   same-alike : (r : Reply) → Alike x one other r r
-  same-alike r = record { answer = refl; sent = refl; given = same-delivered (r .given) }
+  same-alike r = record { answer = refl; sent = refl; given = same-delivered x one other (r .given) }
 
   module _ (z : Sizes) where
     -- the replies to two records, and to the calls that are left

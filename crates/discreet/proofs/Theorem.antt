@@ -8,9 +8,9 @@ use Rattle.rules.specs.declared.Settings.{Settings}
 use Rattle.rules.specs.Sizes.{Sizes, State}
 use Rattle.rules.specs.Refusals.{Reply, handed, lentAfter}
 use Rattle.rules.specs.Step.{Asked, stepOf, run}
-use Rattle.secrecy.specs.Statement.{Each, none, more, NoRead, Brings, good, parity, MayDiffer, same, differ, Delivered, equal, Alike}
+use Rattle.secrecy.specs.Statement.{Each, none, more, NoRead, Brings, good, parity, MayDiffer, same, differ, Delivered, Alike}
 use Rattle.secrecy.proofs.Theorem.{secrecy}
-use Rattle.secrecy.proofs.Given.{none-given}
+use Rattle.secrecy.proofs.Given.{none-given, same-delivered}
 use Rattle.port.specs.State.{sizes, get}
 use Rattle.discipline.specs.Demand2.{Seen, seenOf}
 use Rattle.discipline.proofs.Demand2.{makes-run}
@@ -41,12 +41,8 @@ lent-same l m r t e s g = ap₂ (λ (h k : List ℕ). h ++ drop (length h) k) (a
 ---- Replies that are alike show buffers that are alike
 
 module _ (x : Settings) (one other : List Asked) where
-  each-same : (l : List ℕ) → Each (Delivered x one other) l l
-  each-same [] = none
-  each-same (b ∷ l) = more equal (each-same l)
-
   each-equal : (l m : List ℕ) → l ≡ m → Each (Delivered x one other) l m
-  each-equal l m e = subst (λ (y : List ℕ). Each (Delivered x one other) l y) e (each-same l)
+  each-equal l m e = subst (λ (y : List ℕ). Each (Delivered x one other) l y) e (same-delivered x one other l)
 
   -- the buffer after two replies that are alike
   lent-alike : (l m : List ℕ) (r t : Reply) → l ≡ m → Alike x one other r t → Each (Delivered x one other) (lentAfter l r) (lentAfter m t)

@@ -1,8 +1,8 @@
--- Only a read gives bytes: the reply to any other call gives none. Assumes nothing.
+-- Only a read gives bytes: the reply to any other call gives none. The same bytes are delivered alike. Assumes nothing.
 use Prim.Native.Nat.{ℕ}
 use mathlib.Core.Path.{_≡_, refl}
 use mathlib.Core.Bool.{Bool, true, false, _&&_, _||_}
-use mathlib.Core.List.{List, []}
+use mathlib.Core.List.{List, [], _∷_}
 use lib.ListN.{length}
 use lib.Dec.{eqb, ltb}
 use Rattle.secrecy.specs.Types.{Settings, Call, Set, Receive, Read, Write, Transmit, Flush, Cancel, Foreground, ReadVerdict, WriteVerdict, SettingsVerdict, Verdict}
@@ -12,8 +12,8 @@ use Rattle.rules.specs.Refusals.{Reply}
 use Rattle.rules.specs.Flushing.{flushedOn}
 use Rattle.rules.specs.Output.{taken, writtenOn}
 use Rattle.rules.specs.Verdicts.{tooLarge, foregroundOn, judgedOn, readVerdict, writeVerdict, settingsVerdict}
-use Rattle.rules.specs.Step.{aReadWaits, setOn, step}
-use Rattle.secrecy.specs.Statement.{NoRead}
+use Rattle.rules.specs.Step.{Asked, aReadWaits, setOn, step}
+use Rattle.secrecy.specs.Statement.{Each, none, more, NoRead, Delivered, equal}
 
 -- the reply gives no byte
 abbrev pub NoneGiven : State × Reply → Type 0
@@ -58,3 +58,8 @@ module _ (s : State) where
   none-given z (ReadVerdict p) l k = judged-none (tooLarge (p .group) || eqb (p .group) 0) (readVerdict (s .foreground) p)
   none-given z (WriteVerdict p) l k = judged-none (tooLarge (p .group) || eqb (p .group) 0) (writeVerdict (s .settings .tostop) (s .foreground) p)
   none-given z (SettingsVerdict p) l k = judged-none (tooLarge (p .group) || eqb (p .group) 0) (settingsVerdict (s .foreground) p)
+
+-- the same bytes, delivered in both runs
+pub same-delivered : (x : Settings) (one other : List Asked) (l : List ℕ) → Each (Delivered x one other) l l
+same-delivered x one other [] = none
+same-delivered x one other (b ∷ l) = more equal (same-delivered x one other l)

@@ -3,8 +3,8 @@ use Prim.Native.Nat.{ℕ, zero, suc, _+_, _/_, _%_, _≤_}
 use native.Mathlib.Omega.{arith}
 use mathlib.Core.Path.{_≡_, refl}
 use mathlib.Core.Bool.{Bool, true, false, cond}
-use mathlib.Core.List.{List, [], _∷_, _++_, map}
-use lib.ListN.{length, take, length-append, length-take}
+use mathlib.Core.List.{List, [], _∷_, _++_}
+use lib.ListN.{length, take, length-append, length-take, length-map}
 use lib.Dec.{ltb, eqb}
 use Rattle.rules.specs.declared.Call.{Call}
 use Rattle.rules.specs.declared.Call.the-variants.{Set, Receive, Read, Write, Transmit, Flush, Cancel, Foreground, ReadVerdict, WriteVerdict, SettingsVerdict}
@@ -41,13 +41,9 @@ line-short (suc n) (p ∷ ps) = by (p .mark) (p .ends) (line-short n ps)
     by false true le = omega arith
     by false false le = omega arith
 
-map-length : {A : Type 0} (f : A → ℕ) (l : List A) → length (map f l) ≡ length l
-map-length f [] = refl
-map-length f (a ∷ l) = omega (arith, map-length f l)
-
 part-short : (icanon : Bool) (n : ℕ) (ps : List Place) → length (reads.partOf icanon n ps .bytes) ≤ n
 part-short true n ps = line-short n ps
-part-short false n ps = omega (arith, map-length (λ (p : Place). p .byte) (take n ps), length-take n ps)
+part-short false n ps = omega (arith, length-map (take n ps) (λ (p : Place). p .byte), length-take n ps)
 
 module _ (s : State) (n : ℕ) where
   ruled-short : (a b c : Bool) → length (handed (reads.ruledOn a b c s n .1)) ≤ n
