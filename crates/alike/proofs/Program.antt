@@ -3,7 +3,7 @@ use Prim.Native.Nat.{ℕ}
 use mathlib.Core.Path.{_≡_, ap, _∙_}
 use mathlib.Core.List.{List}
 use Rattle.rules.specs.Trace.{trace}
-use Rattle.stream.proofs.Pieces.{writes-the-whole}
+use Rattle.feeding.proofs.Pieces.{writes-the-whole}
 use Rattle.alike.specs.Program.{Caller, Demand3Program}
 use Rattle.alike.proofs.Theorem.{demand-3-traces}
 

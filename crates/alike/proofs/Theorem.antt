@@ -1,5 +1,5 @@
 -- Demand 3 of traces follows from that of the rules: a trace prints the replies of a run of the calls that its records make. Assumes nothing.
-use Prim.Native.Nat.{ℕ, zero, suc, _+_, _/_, _%_, _≤_}
+use Prim.Native.Nat.{ℕ, zero, suc, _/_, _%_, _≤_}
 use native.Mathlib.Omega.{arith}
 use mathlib.Core.Path.{_≡_, refl, sym, ap, subst, _∙_}
 use mathlib.Core.List.{List, [], _∷_, _++_, append-assoc, append-nil}
@@ -15,7 +15,7 @@ use Rattle.rules.specs.Trace.{Decoded, wellFormed, malformed, aRecord, bodyOf, 
 use Rattle.secrecy.specs.Statement.{Each, none, more, Quiet, MayDiffer, Brings, Alike}
 use Rattle.secrecy.proofs.Theorem.{secrecy}
 use Rattle.secrecy.proofs.Given.{same-delivered}
-use Rattle.stream.proofs.Rules.{fronted, by-front}
+use Rattle.gathering.proofs.Rules.{fronted, by-front}
 use Rattle.alike.proofs.Given.{record-gives-none}
 use Rattle.alike.specs.Statement.{Rec, encoded, written, Ends, atEnd, inRecord, meant, asked, callsOf, Keeps, RecordsDiffer, PrintedAlike, ends, prints, FromState, settingsAfter, Demand3Traces}
 

@@ -6,7 +6,7 @@ use lib.ListN.{length}
 use Rattle.rules.specs.Trace.{trace}
 use Rattle.secrecy.specs.Statement.{Each, Quiet}
 use Rattle.stream.specs.Contract.{beginning}
-use Rattle.stream.specs.Pieces.{joined, Writes}
+use Rattle.feeding.specs.Pieces.{joined, Writes}
 use Rattle.alike.specs.Statement.{Rec, written, Ends, callsOf, RecordsDiffer, PrintedAlike, settingsAfter}
 
 -- what one caller writes, with a port of document 01's sizes and any slices

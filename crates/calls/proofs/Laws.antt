@@ -1,85 +1,21 @@
 -- One lemma for each way out of a call. Assumes nothing.
-use mathlib.Core.Path.{_≡_, refl, sym, ap, subst, _∙_}
-use mathlib.Core.Bool.{Bool, true, false, _||_}
-use mathlib.Core.List.{List, []}
+use mathlib.Core.Path.{_≡_, sym, ap, _∙_}
+use mathlib.Core.Bool.{Bool, true, false}
+use mathlib.Core.List.{[]}
 use Prim.Native.Nat.{ℕ}
-use lib.ListN.{length}
 use lib.Dec.{eqb}
-use borrow.Author.Tests.{eq-eqb, ne-eqb}
 use Rattle.rules.specs.declared.Call.the-variants.{Foreground, Cancel}
 use Rattle.rules.specs.declared.Group.{Group}
-use Rattle.rules.specs.declared.Outcome.the-variants.{Ok, Judged, Refused}
-use Rattle.rules.specs.declared.Process.{Process}
-use Rattle.rules.specs.declared.Verdict.{Verdict}
+use Rattle.rules.specs.declared.Outcome.the-variants.{Ok, Refused}
 use Rattle.rules.specs.declared.Waiting.the-variants.{Idle}
 use Rattle.rules.specs.declared.Refusal.the-variants.{OutOfRange}
 use Rattle.rules.specs.Sizes.{State}
-use Rattle.rules.specs.Refusals.{says}
-use Rattle.rules.specs.Flushing as flushing
 use Rattle.rules.specs.Verdicts as verdict
-use Rattle.output.specs.Contract as output
-use Rattle.port.specs.State.{places, get}
-use Rattle.port.specs.Contract.{flushed}
+use Rattle.port.specs.State.{get}
 use Rattle.port.specs.declared.Port.{Port}
 use Rattle.port.specs.declared.Answered.{Answered}
-use Rattle.storing.specs.Contract.{state, Ranged, Turns, assembled}
-use Rattle.storing.proofs.Laws.{as-assembled, input-stays}
-use Rattle.calling.proofs.Laws.{asks-as, ranged-ranged, turned-of}
-use Rattle.calling.specs.Contract.{stepOf, Asks, ranged, withGroup, grouped, cancelled, answered}
-
----- Flushing
-
--- the output alone
-flushed-output : (q t : Port) (n : ℕ) (os : List ℕ) → Ranged q n (length os) → t ≡ flushed q (length os) → Turns q n os (λ z s. flushing.flushOutput s) t os
-unfolding output.get
-flushed-output q t n os g et bs ms eb em =
-    as-assembled q (flushed q (length os)) t bs ms os bs ms os (flushing.flushOutput (state q bs ms os)) et
-    (record {
-      input = input-stays (q .input) bs ms (eb ∙ sym em) (rw eb (g .input));
-      output = record { output = refl; slice = refl };
-      settings = refl;
-      line = refl;
-      foreground = refl;
-      hung = refl;
-      waiting = refl;
-    })
-
-module _ (p : Port) (bs ms os : List ℕ) (q : Port) (n : ℕ) (en : n ≡ places bs ms) (eq : q ≡ ranged p n (length os)) where
-  module _ (choice : ℕ) (t : Port) (a : Answered) where
-    abbrev s : State
-    s = get p bs ms os
-
-    -- the tests of the choice
-    chosen : (one two three : Bool) → eqb choice 1 ≡ one → eqb choice 2 ≡ two → eqb choice 3 ≡ three → flushing.flushedOn one two three s ≡ flushing.flushed s choice
-    chosen one two three e₁ e₂ e₃ =
-        sym (ap (λ (y : Bool). flushing.flushedOn y (eqb choice 2) (eqb choice 3) s) e₁ ∙ ap (λ (y : Bool). flushing.flushedOn one y (eqb choice 3) s) e₂
-        ∙ ap (λ (y : Bool). flushing.flushedOn one two y s) e₃)
-
-    pub flush-1 : choice ≡ 1 → Turns q n os (λ z s. flushing.flushInput s) t os → a ≡ record { port = t; answer = record { outcome = Ok; count = 0 } }
-        → Asks p bs ms os (flushing.flushed s choice) a
-    flush-1 e h ea =
-        asks-as p bs ms os (flushing.flushInput s, says Ok 0) (flushing.flushed s choice) a
-        (chosen true (eqb choice 2) (eqb choice 3) (eq-eqb choice 1 e) refl refl) (turned-of p bs ms os q n en eq flushing.flushInput t a h ea)
-
-    pub flush-2 : (choice ≡ 1 → ⊥) → choice ≡ 2 → t ≡ flushed q (length os) → a ≡ record { port = t; answer = record { outcome = Ok; count = 0 } }
-        → Asks p bs ms os (flushing.flushed s choice) a
-    flush-2 n₁ e et ea =
-        asks-as p bs ms os (flushing.flushOutput s, says Ok 0) (flushing.flushed s choice) a
-        (chosen false true (eqb choice 3) (ne-eqb choice 1 n₁) (eq-eqb choice 2 e) refl)
-        (turned-of p bs ms os q n en eq flushing.flushOutput t a (flushed-output q t n os (ranged-ranged p bs ms os q n en eq) et) ea)
-
-    pub flush-3 : (choice ≡ 1 → ⊥) → (choice ≡ 2 → ⊥) → choice ≡ 3 → Turns q n os (λ z s. flushing.flushBoth s) t os
-        → a ≡ record { port = t; answer = record { outcome = Ok; count = 0 } } → Asks p bs ms os (flushing.flushed s choice) a
-    flush-3 n₁ n₂ e h ea =
-        asks-as p bs ms os (flushing.flushBoth s, says Ok 0) (flushing.flushed s choice) a
-        (chosen false false true (ne-eqb choice 1 n₁) (ne-eqb choice 2 n₂) (eq-eqb choice 3 e)) (turned-of p bs ms os q n en eq flushing.flushBoth t a h ea)
-
-    pub flush-none : (choice ≡ 1 → ⊥) → (choice ≡ 2 → ⊥) → (choice ≡ 3 → ⊥) → a ≡ record { port = p; answer = record { outcome = Refused OutOfRange; count = 0 } }
-        → Asks p bs ms os (flushing.flushed s choice) a
-    flush-none n₁ n₂ n₃ ea =
-        asks-as p bs ms os (s, says (Refused OutOfRange) 0) (flushing.flushed s choice) a
-        (chosen false false false (ne-eqb choice 1 n₁) (ne-eqb choice 2 n₂) (ne-eqb choice 3 n₃))
-        (subst (λ (y : Answered). Asks p bs ms os (s, says (Refused OutOfRange) 0) y) (sym ea) (record { answer = refl; keeps = refl }))
+use Rattle.flushing.specs.Contract.{assembled}
+use Rattle.calling.specs.Contract.{stepOf, withGroup, grouped, cancelled}
 
 ---- The foreground group
 
@@ -103,30 +39,8 @@ module _ (p : Port) (group : ℕ) (orphaned : Bool) (a : Answered) (t : Bool) (e
       ∙ ap (λ (y : Port). record { port = y; answer = record { outcome = Ok; count = 0 } }) (eq ∙ ap (withGroup p) eg)
       ∙ ap (grouped p) (large false e)
 
----- Cancel, and the verdicts
+---- Cancel
 
 pub cancel-of : (p q : Port) (a : Answered) → q ≡ assembled p (p .input) (p .output) Idle → a ≡ record { port = q; answer = record { outcome = Ok; count = 0 } }
     → a ≡ cancelled p (stepOf p [] [] [] Cancel [])
 cancel-of p q a eq ea = ea ∙ ap (λ (y : Port). record { port = y; answer = record { outcome = Ok; count = 0 } }) eq
-
-module _ (p : Port) (who : Process) (v : Verdict) (a : Answered) (t : Bool) (et : t ≡ verdict.tooLarge (who .group)) where
-  judged-as : (u : Bool) → (verdict.tooLarge (who .group) || eqb (who .group) 0) ≡ u
-      → answered p (verdict.judgedOn u (get p [] [] []) v) ≡ answered p (verdict.judged (get p [] [] []) who v)
-  judged-as u e = ap (λ (y : Bool). answered p (verdict.judgedOn y (get p [] [] []) v)) (sym e)
-
-  pub judged-large : t ≡ true → a ≡ record { port = p; answer = record { outcome = Refused OutOfRange; count = 0 } }
-      → a ≡ answered p (verdict.judged (get p [] [] []) who v)
-  judged-large e ea = ea ∙ judged-as true (ap (λ (y : Bool). y || eqb (who .group) 0) (sym et ∙ e))
-
-  pub judged-none : t ≡ false → who .group ≡ 0 → a ≡ record { port = p; answer = record { outcome = Refused OutOfRange; count = 0 } }
-      → a ≡ answered p (verdict.judged (get p [] [] []) who v)
-  judged-none e z ea = ea ∙ judged-as true (ap (λ (y : Bool). y || eqb (who .group) 0) (sym et ∙ e) ∙ eq-eqb (who .group) 0 z)
-
-  pub judged-given : t ≡ false → (who .group ≡ 0 → ⊥) → a ≡ record { port = p; answer = record { outcome = Judged v; count = 0 } }
-      → a ≡ answered p (verdict.judged (get p [] [] []) who v)
-  judged-given e some ea = ea ∙ judged-as false (ap (λ (y : Bool). y || eqb (who .group) 0) (sym et ∙ e) ∙ ne-eqb (who .group) 0 some)
-
--- the verdict that the rules give
-pub verdict-of : (p : Port) (who : Process) (v : Verdict) {u : Verdict} → v ≡ u → (a : Answered) → a ≡ answered p (verdict.judged (get p [] [] []) who v)
-    → a ≡ answered p (verdict.judged (get p [] [] []) who u)
-verdict-of p who v e a ea = ea ∙ ap (λ (y : Verdict). answered p (verdict.judged (get p [] [] []) who y)) e

@@ -1,43 +1,18 @@
 -- The state after a call is the rules' next state, at the same sizes.
 -- Assumes nothing.
 use mathlib.Core.Path.{_≡_, refl, ap, _∙_}
-use mathlib.Core.Bool.{Bool, true, false, _||_}
+use mathlib.Core.Bool.{Bool, true, false}
 use mathlib.Core.List.{List, []}
 use Prim.Native.Nat.{ℕ}
-use lib.Dec.{eqb}
-use Rattle.rules.specs.declared.Call.the-variants.{Flush, Foreground, Cancel, ReadVerdict, WriteVerdict, SettingsVerdict}
-use Rattle.rules.specs.declared.Process.{Process}
-use Rattle.rules.specs.declared.Verdict.{Verdict}
-use Rattle.rules.specs.Sizes.{State}
-use Rattle.rules.specs.Flushing as flushing
+use Rattle.rules.specs.declared.Call.the-variants.{Foreground, Cancel}
 use Rattle.rules.specs.Verdicts as verdict
 use Rattle.port.specs.State.{sizes, get}
-use Rattle.port.specs.Contract.{refused}
 use Rattle.port.specs.declared.Port.{Port}
 use Rattle.port.specs.declared.Answered.{Answered}
-use Rattle.storing.specs.Contract.{state}
-use Rattle.following.specs.Following.{Goes}
-use Rattle.following.proofs.Laws.{flushed-goes}
-use Rattle.calling.specs.Contract.{stepOf, Leaves, Keeps, Asks, grouped, cancelled, answered, Now}
-use Rattle.calling.proofs.Promises.{left-now, within-places, within-queue}
+use Rattle.flushing.specs.Contract.{state}
+use Rattle.calling.specs.Contract.{stepOf, grouped, cancelled, Now}
 
 module _ (p : Port) (bs ms os : List ℕ) where
-  pub flushed-now : (choice : ℕ) (r : Answered) → Asks p bs ms os (stepOf p bs ms os (Flush choice) []) r
-      → Now p bs ms os (stepOf p bs ms os (Flush choice) [] .0) (r .port) bs ms os
-  flushed-now choice r h =
-      by (eqb choice 1) (eqb choice 2) (eqb choice 3) (flushed-goes (sizes p bs ms os) (get p bs ms os) choice (within-places p bs ms os) (within-queue p bs ms os)) (h .keeps)
-    where
-      leaves : (w : State) → Goes (sizes p bs ms os) (get p bs ms os) w → Leaves p bs ms os w (r .port) bs ms os → Now p bs ms os w (r .port) bs ms os
-      leaves w g k = left-now p (r .port) bs ms os bs ms os w g k
-
-      by : (a b c : Bool) → Goes (sizes p bs ms os) (get p bs ms os) (flushing.flushedOn a b c (get p bs ms os) .0)
-          → Keeps (refused (flushing.flushedOn a b c (get p bs ms os) .1 .answer)) p bs ms os (flushing.flushedOn a b c (get p bs ms os) .0) (r .port)
-          → Now p bs ms os (flushing.flushedOn a b c (get p bs ms os) .0) (r .port) bs ms os
-      by true b c g k = leaves (flushing.flushInput (get p bs ms os)) g k
-      by false true c g k = leaves (flushing.flushOutput (get p bs ms os)) g k
-      by false false true g k = leaves (flushing.flushBoth (get p bs ms os)) g k
-      by false false false g k = record { state = ap (λ (y : Port). get y bs ms os) k; sizes = ap (λ (y : Port). sizes y bs ms os) k }
-
   pub grouped-now : (group : ℕ) (orphaned : Bool) (r : Answered) → r ≡ grouped p (stepOf p [] [] [] (Foreground group orphaned) [])
       → Now p bs ms os (stepOf p bs ms os (Foreground group orphaned) [] .0) (r .port) bs ms os × (r .answer ≡ stepOf p bs ms os (Foreground group orphaned) [] .1 .answer)
   unfolding get
@@ -62,36 +37,3 @@ module _ (p : Port) (bs ms os : List ℕ) where
     record { state = ap (λ (y : Answered). get (y .port) bs ms os) e; sizes = ap (λ (y : Answered). sizes (y .port) bs ms os) e },
     ap (λ (y : Answered). y .answer) e,
   )
-
-  -- a verdict v, the same whatever the slices are
-  judged-now : (who : Process) (v : Verdict) (r : Answered) → r ≡ answered p (verdict.judged (get p [] [] []) who v)
-      → Now p bs ms os (verdict.judged (get p bs ms os) who v .0) (r .port) bs ms os × (r .answer ≡ verdict.judged (get p bs ms os) who v .1 .answer)
-  judged-now who v r e = (
-    record {
-      state = ap (λ (y : Answered). get (y .port) bs ms os) e ∙ by (verdict.tooLarge (who .group) || eqb (who .group) 0) .0;
-      sizes = ap (λ (y : Answered). sizes (y .port) bs ms os) e;
-    },
-    ap (λ (y : Answered). y .answer) e ∙ by (verdict.tooLarge (who .group) || eqb (who .group) 0) .1,
-  )
-    where
-      by : (t : Bool)
-          → (get p bs ms os ≡ verdict.judgedOn t (get p bs ms os) v .0)
-          × (verdict.judgedOn t (get p [] [] []) v .1 .answer ≡ verdict.judgedOn t (get p bs ms os) v .1 .answer)
-      by true = (refl, refl)
-      by false = (refl, refl)
-
-  module _ (who : Process) (r : Answered) where
-    pub read-judged : r ≡ answered p (stepOf p [] [] [] (ReadVerdict who) [])
-        → Now p bs ms os (stepOf p bs ms os (ReadVerdict who) [] .0) (r .port) bs ms os × (r .answer ≡ stepOf p bs ms os (ReadVerdict who) [] .1 .answer)
-    unfolding get
-    read-judged e = judged-now who (verdict.readVerdict (p .foreground) who) r e
-
-    pub write-judged : r ≡ answered p (stepOf p [] [] [] (WriteVerdict who) [])
-        → Now p bs ms os (stepOf p bs ms os (WriteVerdict who) [] .0) (r .port) bs ms os × (r .answer ≡ stepOf p bs ms os (WriteVerdict who) [] .1 .answer)
-    unfolding get
-    write-judged e = judged-now who (verdict.writeVerdict (p .settings .tostop) (p .foreground) who) r e
-
-    pub settings-judged : r ≡ answered p (stepOf p [] [] [] (SettingsVerdict who) [])
-        → Now p bs ms os (stepOf p bs ms os (SettingsVerdict who) [] .0) (r .port) bs ms os × (r .answer ≡ stepOf p bs ms os (SettingsVerdict who) [] .1 .answer)
-    unfolding get
-    settings-judged e = judged-now who (verdict.settingsVerdict (p .foreground) who) r e

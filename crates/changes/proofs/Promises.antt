@@ -19,8 +19,8 @@ use Rattle.port.specs.State.{places, sizes, get}
 use Rattle.port.specs.Contract.{refused}
 use Rattle.port.specs.declared.Port.{Port}
 use Rattle.port.specs.declared.Answered.{Answered}
-use Rattle.reading.specs.Contract.{Sound}
-use Rattle.reading.proofs.Laws.{one-laid, one-line-on, off-after, on-after}
+use Rattle.input.specs.Contract.{Sound}
+use Rattle.switching.proofs.Laws.{one-laid, one-line-on, off-after, on-after}
 use Rattle.calling.specs.Contract.{stepOf, Now}
 use Rattle.calling.proofs.Laws.{bytes-long, both-long}
 use Rattle.calling.proofs.Promises.{whole, same-answered, same-state, long-again}

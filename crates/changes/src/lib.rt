@@ -1,7 +1,7 @@
 // Document 01, 'Settings': 'New settings', for every value of port and slices.
 ghost use mathlib.Core.Path.{_≡_};
 ghost use mathlib.Core.List.{[]};
-ghost use Rattle.reading.specs.Contract.{Sound};
+ghost use Rattle.input.specs.Contract.{Sound};
 ghost use Rattle.calling.specs.Contract.{stepOf};
 ghost use Rattle.changes.specs.Contract.{Changes, resumed, withSettings, Sets};
 use input::Input;
@@ -23,10 +23,10 @@ fn change_input(i: Input, bytes: &mut [u8], marks: &mut [u8], was: bool, is: boo
         if is {
             return i;
         }
-        return reading::without_marks(i, bytes, marks);
+        return switching::without_marks(i, bytes, marks);
     }
     if is {
-        return reading::one_line(i, marks);
+        return switching::one_line(i, marks);
     }
     i
 }
@@ -68,7 +68,7 @@ pub fn set(p: Port, bytes: &mut [u8], marks: &mut [u8], x: Settings) -> Answered
     if waiting::a_read_waits(w) {
         return port::says(p, Outcome::Refused(Refusal::ReadWaits), 0);
     }
-    if settings::acceptable(x) {
+    if accepting::acceptable(x) {
         let n = queue::least(bytes.len(), marks.len());
         let old = p.settings;
         let i = p.input;

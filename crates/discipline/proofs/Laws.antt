@@ -25,8 +25,10 @@ use Rattle.port.specs.declared.Answered.{Answered}
 use Rattle.port.proofs.Laws.{size-written}
 use Rattle.port.proofs.Promises.{for-any-input, transmits-for-any-input, state-written, state-transmitted}
 use Rattle.calling.specs.Contract.{stepOf, Calls, Asks, grouped, cancelled, answered}
-use Rattle.events.proofs.Promises.{received-now}
-use Rattle.calls.proofs.Promises.{flushed-now, grouped-now, cancelled-now, read-judged, write-judged, settings-judged}
+use Rattle.receiving.proofs.Promises.{received-now}
+use Rattle.calls.proofs.Promises.{grouped-now, cancelled-now}
+use Rattle.flushes.proofs.Promises.{flushed-now}
+use Rattle.judging.proofs.Promises.{read-judged, write-judged, settings-judged}
 use Rattle.changes.specs.Contract.{Sets}
 use Rattle.changes.proofs.Promises.{set-now}
 use Rattle.reads.specs.Contract.{Reads}

@@ -18,15 +18,15 @@ pub fn step(
 {
     match call {
         Call::Set(x) => changes::set(p, bytes, marks, x),
-        Call::Receive(e) => events::receive(p, bytes, marks, out, e),
+        Call::Receive(e) => receiving::receive(p, bytes, marks, out, e),
         Call::Read { nonblocking } => reads::read(p, bytes, marks, lent, nonblocking),
         Call::Write => p.write(out, lent),
         Call::Transmit => p.transmit(out, lent),
-        Call::Flush(choice) => calls::flush(p, bytes, marks, out, choice),
+        Call::Flush(choice) => flushes::flush(p, bytes, marks, out, choice),
         Call::Cancel => calls::cancel(p),
         Call::Foreground { group, orphaned } => calls::foreground(p, group, orphaned),
-        Call::ReadVerdict(who) => calls::read_verdict(p, who),
-        Call::WriteVerdict(who) => calls::write_verdict(p, who),
-        Call::SettingsVerdict(who) => calls::settings_verdict(p, who),
+        Call::ReadVerdict(who) => judging::read_verdict(p, who),
+        Call::WriteVerdict(who) => judging::write_verdict(p, who),
+        Call::SettingsVerdict(who) => judging::settings_verdict(p, who),
     }
 }

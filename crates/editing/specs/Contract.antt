@@ -2,46 +2,16 @@
 -- stand values at entry only.
 use Prim.Native.Nat.{ℕ, _+_, _/_, _%_, _<_, _≤_}
 use mathlib.Core.Path.{_≡_}
-use mathlib.Core.Bool.{Bool, true, false, not, _&&_, _||_}
+use mathlib.Core.Bool.{Bool, not, _&&_, _||_}
 use mathlib.Core.List.{List, _∷_}
 use lib.ListN.{length, getD, take, drop}
 use lib.Dec.{eqb}
 use Rattle.queue.specs.Queue.{held}
 use Rattle.rules.specs.Sizes.{Place}
-use Rattle.rules.specs.Editing.{units, withoutUnits, blank, sameClass}
-use Rattle.rules.specs.declared.Class.{Class}
-use Rattle.rules.specs.declared.Class.the-variants.{Blank, Letter, Control, Other}
+use Rattle.rules.specs.Editing.{units, withoutUnits}
 use Rattle.input.specs.Contract.{placeOf, all, get, lineTo, Within}
 use Rattle.input.specs.declared.Input.{Input}
 use Rattle.editing.specs.declared.Run.{Run}
-use Rattle.editing.specs.declared.Test.{Test}
-use Rattle.editing.specs.declared.Test.the-variants.{Blanks, NonBlanks, Letters, Others}
-
-abbrev pub blankClass : Class → Bool
-blankClass Blank = true
-blankClass Letter = false
-blankClass Control = false
-blankClass Other = false
-
-abbrev pub letterClass : Class → Bool
-letterClass Blank = false
-letterClass Letter = true
-letterClass Control = false
-letterClass Other = false
-
--- what a test asks of a unit, in the rules' words
-abbrev pub testOf : Test → List Place → Bool
-testOf Blanks = blank
-testOf NonBlanks = λ u. not (blank u)
-testOf Letters = sameClass true
-testOf Others = sameClass false
-
--- the same, of a unit that is a blank or a letter or neither
-abbrev pub passesOf : Test → Bool → Bool → Bool
-passesOf Blanks b l = b
-passesOf NonBlanks b l = not b
-passesOf Letters b l = l
-passesOf Others b l = not l && not b
 
 -- the place k, the oldest at 0
 abbrev pub placeAt : Input → List ℕ → List ℕ → ℕ → Place

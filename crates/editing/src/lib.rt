@@ -1,30 +1,20 @@
-// Document 01, 'Editing': how many units of the current line ERASE, WERASE and KILL remove, and where these begin. Walks go
+// Document 01, 'Editing': how many units of the current line ERASE and KILL remove, and where these begin. Walks go
 // back over the current line alone. REPRINT goes forward over it, place by place.
 ghost use mathlib.Core.Path.{_≡_};
 ghost use mathlib.Core.List.{List};
-ghost use Prim.Native.Nat.{ℕ, _/_, _%_, _<_, _≤_, min};
+ghost use Prim.Native.Nat.{ℕ, _/_, _%_, _<_, min};
 ghost use lib.ListN.{length, getD};
 ghost use lib.Dec.{eqb};
 ghost use Rattle.queue.specs.Queue.{held};
-ghost use Rattle.rules.specs.Editing.{units, trailing, word, oneClass, alternateWord, removed, wordErase};
+ghost use Rattle.rules.specs.Editing.{units};
 ghost use Rattle.input.specs.Contract.{get, Within};
-ghost use Rattle.editing.specs.Contract.{blankClass, letterClass, testOf, passesOf, placesIn, unitsTo, Line, Starts, Cuts, Removes, showsAt};
+ghost use Rattle.editing.specs.Contract.{unitsTo, Line, Starts, Cuts, Removes, showsAt};
 use input::Input;
-use rules::Class;
-use rules::Settings;
 
 // A run of units before a place: where it begins, and how many it has.
 pub struct Run {
     pub at: usize,
     pub units: usize,
-}
-
-// 'trailing blanks'; 'the run of non-blanks'; 'letters and underscore or all others'.
-pub enum Test {
-    Blanks,
-    NonBlanks,
-    Letters,
-    Others,
 }
 
 // the mark of a place that is the first of a unit
@@ -41,46 +31,8 @@ fn silent(m: u8) -> bool
     m / 8 % 2 == 1
 }
 
-fn is_blank(c: Class) -> bool
-    ensures { λ r. ⌜ r ≡ blankClass c ⌝ }
-{
-    match c {
-        Class::Blank => true,
-        Class::Letter => false,
-        Class::Control => false,
-        Class::Other => false,
-    }
-}
-
-fn is_letter(c: Class) -> bool
-    ensures { λ r. ⌜ r ≡ letterClass c ⌝ }
-{
-    match c {
-        Class::Blank => false,
-        Class::Letter => true,
-        Class::Control => false,
-        Class::Other => false,
-    }
-}
-
-fn passes(t: Test, blank: bool, letter: bool) -> bool
-    ensures { λ r. ⌜ r ≡ passesOf t blank letter ⌝ }
-{
-    match t {
-        Test::Blanks => blank,
-        Test::NonBlanks => !blank,
-        Test::Letters => letter,
-        Test::Others => {
-            if letter {
-                return false;
-            }
-            !blank
-        }
-    }
-}
-
 // where the unit begins whose last place stands before end
-fn unit_start(i: Input, marks: &[u8], end: usize) -> usize
+pub fn unit_start(i: Input, marks: &[u8], end: usize) -> usize
     requires { ⌜ Line i (now marks) end ⌝ }
     requires { ⌜ i .ready < end ⌝ }
     ensures { λ r. ⌜ Starts i (now (marks .entry)) end r ⌝ }
@@ -97,66 +49,8 @@ fn unit_start(i: Input, marks: &[u8], end: usize) -> usize
     at
 }
 
-// whether the unit from start to end passes; 'a unit of several bytes is a non-blank of the second class'
-fn passes_at(i: Input, bytes: &[u8], start: usize, end: usize, t: Test) -> bool
-    requires { ⌜ Within i (length (now bytes)) ⌝ }
-    requires { ⌜ (start < end) × (end ≤ i .queue .len) ⌝ }
-    ensures { λ r. ⌜ ((ms : List ℕ) → length (now (bytes .entry)) ≡ length ms → r ≡ testOf t (placesIn i (now (bytes .entry)) ms start end)) ⌝ }
-{
-    let q = i.queue;
-    let b = q.at(bytes, start);
-    let c = classes::class_of(b);
-    if start + 1 == end {
-        let blank = is_blank(c);
-        let letter = is_letter(c);
-        return passes(t, blank, letter);
-    }
-    passes(t, false, false)
-}
-
-// the units before end that pass the test, one after another
-fn trailing(i: Input, bytes: &[u8], marks: &[u8], end: usize, t: Test) -> Run
-    requires { ⌜ length (now bytes) ≡ length (now marks) ⌝ }
-    requires { ⌜ Line i (now marks) end ⌝ }
-    ensures { λ r. ⌜ Cuts i (now (bytes .entry)) (now (marks .entry)) end (trailing (testOf t) (unitsTo i (now (bytes .entry)) (now (marks .entry)) end)) r ⌝ }
-{
-    let mut from = end;
-    let mut units = 0;
-    while from > i.ready {
-        let start = unit_start(i, marks, from);
-        let more = passes_at(i, bytes, start, from, t);
-        if !more {
-            return Run {
-                at: from,
-                units: units,
-            };
-        }
-        from = start;
-        units += 1;
-    }
-    Run {
-        at: from,
-        units: units,
-    }
-}
-
-// trailing blanks, then the run of non-blanks
-fn word(i: Input, bytes: &[u8], marks: &[u8]) -> Run
-    requires { ⌜ length (now bytes) ≡ length (now marks) ⌝ }
-    requires { ⌜ Within i (length (now marks)) ⌝ }
-    ensures { λ r. ⌜ Cuts i (now (bytes .entry)) (now (marks .entry)) (i .queue .len) (word (unitsTo i (now (bytes .entry)) (now (marks .entry)) (i .queue .len))) r ⌝ }
-{
-    let q = i.queue;
-    let blanks = trailing(i, bytes, marks, q.len, Test::Blanks);
-    let rest = trailing(i, bytes, marks, blanks.at, Test::NonBlanks);
-    Run {
-        at: rest.at,
-        units: blanks.units + rest.units,
-    }
-}
-
 // one unit before end, where there is one
-fn one(i: Input, marks: &[u8], end: usize) -> Run
+pub fn one(i: Input, marks: &[u8], end: usize) -> Run
     requires { ⌜ Line i (now marks) end ⌝ }
     ensures { λ r. ⌜ ((bs : List ℕ) → length bs ≡ length (now (marks .entry)) → Cuts i bs (now (marks .entry)) end (min 1 (length (unitsTo i bs (now (marks .entry)) end))) r) ⌝ }
 {
@@ -167,39 +61,6 @@ fn one(i: Input, marks: &[u8], end: usize) -> Run
     Run { at: at, units: 1 }
 }
 
-// the units before end of one class, that of the last of them
-fn one_class(i: Input, bytes: &[u8], marks: &[u8], end: usize) -> Run
-    requires { ⌜ length (now bytes) ≡ length (now marks) ⌝ }
-    requires { ⌜ Line i (now marks) end ⌝ }
-    ensures { λ r. ⌜ Cuts i (now (bytes .entry)) (now (marks .entry)) end (oneClass (unitsTo i (now (bytes .entry)) (now (marks .entry)) end)) r ⌝ }
-{
-    if end <= i.ready {
-        return Run { at: end, units: 0 };
-    }
-    let start = unit_start(i, marks, end);
-    let letter = passes_at(i, bytes, start, end, Test::Letters);
-    if letter {
-        return trailing(i, bytes, marks, end, Test::Letters);
-    }
-    trailing(i, bytes, marks, end, Test::Others)
-}
-
-// trailing blanks, one further unit, then the run of one class
-fn alternate_word(i: Input, bytes: &[u8], marks: &[u8]) -> Run
-    requires { ⌜ length (now bytes) ≡ length (now marks) ⌝ }
-    requires { ⌜ Within i (length (now marks)) ⌝ }
-    ensures { λ r. ⌜ Cuts i (now (bytes .entry)) (now (marks .entry)) (i .queue .len) (alternateWord (unitsTo i (now (bytes .entry)) (now (marks .entry)) (i .queue .len))) r ⌝ }
-{
-    let q = i.queue;
-    let blanks = trailing(i, bytes, marks, q.len, Test::Blanks);
-    let further = one(i, marks, blanks.at);
-    let rest = one_class(i, bytes, marks, further.at);
-    Run {
-        at: rest.at,
-        units: blanks.units + further.units + rest.units,
-    }
-}
-
 // 'ERASE removes the last unit of the current line'
 pub fn last_unit(i: Input, marks: &[u8]) -> Run
     requires { ⌜ Within i (length (now marks)) ⌝ }
@@ -207,18 +68,6 @@ pub fn last_unit(i: Input, marks: &[u8]) -> Run
 {
     let q = i.queue;
     one(i, marks, q.len)
-}
-
-// 'WERASE'; its units by ALTWERASE
-pub fn last_word(i: Input, x: Settings, bytes: &[u8], marks: &[u8]) -> Run
-    requires { ⌜ length (now bytes) ≡ length (now marks) ⌝ }
-    requires { ⌜ Within i (length (now marks)) ⌝ }
-    ensures { λ r. ⌜ Removes i (now (bytes .entry)) (now (marks .entry)) (removed x wordErase (units (get i (now (bytes .entry)) (now (marks .entry)) .current))) r ⌝ }
-{
-    if x.altwerase {
-        return alternate_word(i, bytes, marks);
-    }
-    word(i, bytes, marks)
 }
 
 // 'KILL all of it'

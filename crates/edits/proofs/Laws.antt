@@ -22,8 +22,8 @@ use Rattle.meaning.specs.Meaning.{editOf}
 use Rattle.meaning.specs.declared.Edit.{Edit as Coded}
 use Rattle.port.specs.State.{withOutput}
 use Rattle.port.specs.declared.Port.{Port}
-use Rattle.storing.specs.Contract.{state, sizesOf, Ranged, Ready, Becomes}
-use Rattle.storing.proofs.Laws.{as-state, as-assembled, output-stays, stays, then-shown}
+use Rattle.flushing.specs.Contract.{state, sizesOf, Ranged, Ready, Becomes}
+use Rattle.flushing.proofs.Laws.{as-state, as-assembled, output-stays, stays, then-shown}
 use Rattle.edits.specs.Contract.{unitsOf, without, Edited}
 
 no-places : (l : List Place) → length l ≤ 0 → l ≡ []

@@ -10,7 +10,7 @@ use Rattle.input.specs.Contract.{get, shortened}
 use Rattle.editing.specs.Contract.{Removes}
 use Rattle.editing.specs.declared.Run.{Run}
 use Rattle.port.specs.declared.Port.{Port}
-use Rattle.storing.specs.Contract.{state, sizesOf, assembled, Becomes}
+use Rattle.flushing.specs.Contract.{state, sizesOf, assembled, Becomes}
 
 -- the units of the current line
 abbrev pub unitsOf : Port → List ℕ → List ℕ → List (List Place)

@@ -6,7 +6,7 @@ ghost use Rattle.rules.specs.Editing.{erase, wordErase, kill, reprint};
 ghost use Rattle.rules.specs.Received.{editOn};
 ghost use Rattle.input.specs.Contract.{Within};
 ghost use Rattle.meaning.specs.Meaning.{editOf};
-ghost use Rattle.storing.specs.Contract.{Ranged, Ready, Becomes, state, sizesOf};
+ghost use Rattle.flushing.specs.Contract.{Ranged, Ready, Becomes, state, sizesOf};
 ghost use Rattle.edits.specs.Contract.{without, Edited, unitsOf};
 use editing::Run;
 use input::Input;
@@ -30,7 +30,7 @@ fn without(p: Port, n: usize, run: Run) -> Port
     let input = i.cut(n, run.at);
     let output = p.output;
     let waiting = p.waiting;
-    storing::assemble(p, input, output, waiting)
+    flushing::assemble(p, input, output, waiting)
 }
 
 // ERASE and WERASE by the character b: the units of the run are gone, and what that shows is shown; on an empty line nothing
@@ -45,7 +45,7 @@ fn erases(p: Port, n: usize, out: &mut [u8], b: u8, run: Run) -> Port
     let x = p.settings;
     let q = without(p, n, run);
     let o = q.output;
-    let output = echo::of_erased(o, x, out, b, run.units);
+    let output = showing::of_erased(o, x, out, b, run.units);
     q.with_output(output)
 }
 
@@ -61,7 +61,7 @@ fn kills(p: Port, n: usize, out: &mut [u8], b: u8, run: Run) -> Port
     let x = p.settings;
     let q = without(p, n, run);
     let o = q.output;
-    let output = echo::of_killed(o, x, out, b, run.units);
+    let output = showing::of_killed(o, x, out, b, run.units);
     q.with_output(output)
 }
 
@@ -91,7 +91,7 @@ pub fn edit(p: Port, bytes: &[u8], marks: &[u8], out: &mut [u8], e: Edit, b: u8)
             erases(p, n, out, b, run)
         }
         Edit::WordErase => {
-            let run = editing::last_word(i, x, bytes, marks);
+            let run = words::last_word(i, x, bytes, marks);
             erases(p, n, out, b, run)
         }
         Edit::Kill => {

@@ -1,71 +1,25 @@
-// Document 01, 'Received events', for every value of port and slices: one call for each event, and one by the event.
-ghost use mathlib.Core.Path.{_≡_};
+// Document 01, 'Received events': one call for each event that brings a byte.
 ghost use mathlib.Core.List.{[]};
-ghost use Rattle.rules.specs.Step.{bytesIn};
 ghost use Rattle.calling.specs.Contract.{Calls, stepOf};
 use port::Answered;
 use port::Port;
 use rules::Call;
 use rules::Event;
 
-// the count of an event: a byte is taken, or none comes
-fn bytes_in(e: Event) -> usize
-    ensures { λ r. ⌜ r ≡ bytesIn e ⌝ }
-{
-    match e {
-        Event::Good(_) => 1,
-        Event::Parity(_) => 1,
-        Event::Framing(_) => 1,
-        Event::Break => 0,
-        Event::Tick => 0,
-        Event::Hangup => 0,
-    }
-}
-
-// 'Received events', by the event
-pub fn receive(p: Port, bytes: &mut [u8], marks: &mut [u8], out: &mut [u8], e: Event) -> Answered
-    ensures { λ r. ⌜ Calls p (now (bytes .entry)) (now (marks .entry)) (now (out .entry)) (stepOf p (now (bytes .entry)) (now (marks .entry)) (now (out .entry)) (Call.Receive e) []) r (now (bytes .exit)) (now (marks .exit)) (now (out .exit)) ⌝ }
-{
-    let n = queue::least(bytes.len(), marks.len());
-    let q = calling::in_range(p, n, out.len());
-    let r = received::received(q, &mut bytes[..n], &mut marks[..n], out, e);
-    let port = r.port;
-    let outcome = r.outcome;
-    port::says(port, outcome, bytes_in(e))
-}
-
 pub fn good(p: Port, bytes: &mut [u8], marks: &mut [u8], out: &mut [u8], b: u8) -> Answered
     ensures { λ r. ⌜ Calls p (now (bytes .entry)) (now (marks .entry)) (now (out .entry)) (stepOf p (now (bytes .entry)) (now (marks .entry)) (now (out .entry)) (Call.Receive (Event.Good b)) []) r (now (bytes .exit)) (now (marks .exit)) (now (out .exit)) ⌝ }
 {
-    receive(p, bytes, marks, out, Event::Good(b))
+    receiving::receive(p, bytes, marks, out, Event::Good(b))
 }
 
 pub fn parity_error(p: Port, bytes: &mut [u8], marks: &mut [u8], out: &mut [u8], b: u8) -> Answered
     ensures { λ r. ⌜ Calls p (now (bytes .entry)) (now (marks .entry)) (now (out .entry)) (stepOf p (now (bytes .entry)) (now (marks .entry)) (now (out .entry)) (Call.Receive (Event.Parity b)) []) r (now (bytes .exit)) (now (marks .exit)) (now (out .exit)) ⌝ }
 {
-    receive(p, bytes, marks, out, Event::Parity(b))
+    receiving::receive(p, bytes, marks, out, Event::Parity(b))
 }
 
 pub fn framing_error(p: Port, bytes: &mut [u8], marks: &mut [u8], out: &mut [u8], b: u8) -> Answered
     ensures { λ r. ⌜ Calls p (now (bytes .entry)) (now (marks .entry)) (now (out .entry)) (stepOf p (now (bytes .entry)) (now (marks .entry)) (now (out .entry)) (Call.Receive (Event.Framing b)) []) r (now (bytes .exit)) (now (marks .exit)) (now (out .exit)) ⌝ }
 {
-    receive(p, bytes, marks, out, Event::Framing(b))
-}
-
-pub fn break_condition(p: Port, bytes: &mut [u8], marks: &mut [u8], out: &mut [u8]) -> Answered
-    ensures { λ r. ⌜ Calls p (now (bytes .entry)) (now (marks .entry)) (now (out .entry)) (stepOf p (now (bytes .entry)) (now (marks .entry)) (now (out .entry)) (Call.Receive Event.Break) []) r (now (bytes .exit)) (now (marks .exit)) (now (out .exit)) ⌝ }
-{
-    receive(p, bytes, marks, out, Event::Break)
-}
-
-pub fn tick(p: Port, bytes: &mut [u8], marks: &mut [u8], out: &mut [u8]) -> Answered
-    ensures { λ r. ⌜ Calls p (now (bytes .entry)) (now (marks .entry)) (now (out .entry)) (stepOf p (now (bytes .entry)) (now (marks .entry)) (now (out .entry)) (Call.Receive Event.Tick) []) r (now (bytes .exit)) (now (marks .exit)) (now (out .exit)) ⌝ }
-{
-    receive(p, bytes, marks, out, Event::Tick)
-}
-
-pub fn hangup(p: Port, bytes: &mut [u8], marks: &mut [u8], out: &mut [u8]) -> Answered
-    ensures { λ r. ⌜ Calls p (now (bytes .entry)) (now (marks .entry)) (now (out .entry)) (stepOf p (now (bytes .entry)) (now (marks .entry)) (now (out .entry)) (Call.Receive Event.Hangup) []) r (now (bytes .exit)) (now (marks .exit)) (now (out .exit)) ⌝ }
-{
-    receive(p, bytes, marks, out, Event::Hangup)
+    receiving::receive(p, bytes, marks, out, Event::Framing(b))
 }

@@ -1,6 +1,6 @@
 -- One lemma for each way out of the functions of this crate. Assumes nothing.
 use mathlib.Core.Path.{_≡_, refl, sym, ap, subst, _∙_}
-use mathlib.Core.Bool.{Bool, true, false, not, _&&_, and-false, and-true}
+use mathlib.Core.Bool.{false}
 use mathlib.Core.List.{List}
 use Prim.Native.Nat.{ℕ}
 use lib.ListN.{length}
@@ -14,18 +14,11 @@ use Rattle.output.specs.Contract as output
 use Rattle.meaning.specs.Meaning.{meaningOf}
 use Rattle.meaning.specs.declared.Meaning.{Meaning}
 use Rattle.port.specs.declared.Port.{Port}
-use Rattle.storing.specs.Contract.{state, sizesOf, Ready, Becomes}
-use Rattle.storing.proofs.Laws.{as-state}
+use Rattle.flushing.specs.Contract.{state, sizesOf, Ready, Becomes}
+use Rattle.flushing.proofs.Laws.{as-state}
 use Rattle.signalling.specs.Contract.{stopTo}
-use Rattle.goodbyte.specs.Contract.{Answers, Tells, resumed, begun}
-
----- 'IXON and IXANY: output resumes.'
-
-pub resumes-both : (x : Settings) (t : Bool) → x .ixon ≡ true → x .ixany ≡ true → false ≡ resumed x t
-resumes-both x t a b = sym (ap (λ (y : Bool). t && not (y && x .ixany)) a ∙ ap (λ (y : Bool). t && not y) b ∙ and-false t)
-
-pub resumes-not : (x : Settings) (t : Bool) → (x .ixon && x .ixany) ≡ false → t ≡ resumed x t
-resumes-not x t a = sym (ap (λ (y : Bool). t && not y) a ∙ and-true t)
+use Rattle.goodbyte.specs.Contract.{Answers, Tells}
+use Rattle.beginning.specs.Contract.{resumed, begun}
 
 ---- The port at step 3
 
@@ -88,13 +81,6 @@ module _ (p : Port) (bs ms os : List ℕ) (g : Ready p bs ms os) where
       }
 
 ---- What a meaning is carried out as
-
--- in the arm of one meaning
-pub meant : {m k : Meaning} (p r : Port) (bs ms os bs′ ms′ os′ : List ℕ) (z : Sizes) → m ≡ k
-    → Becomes p bs ms os (steps.carry z (state p bs ms os) (meaningOf (p .settings) k) .0) r bs′ ms′ os′
-    → Becomes p bs ms os (steps.carry z (state p bs ms os) (meaningOf (p .settings) m) .0) r bs′ ms′ os′
-meant {m} {k} p r bs ms os bs′ ms′ os′ z e b =
-    subst (λ (y : Meaning). Becomes p bs ms os (steps.carry z (state p bs ms os) (meaningOf (p .settings) y) .0) r bs′ ms′ os′) (sym e) b
 
 pub told : {m k : Meaning} (f : Group) (r : Outcome) → m ≡ k → Tells k f r → Tells m f r
 told f r e t = subst (λ (y : Meaning). Tells y f r) (sym e) t

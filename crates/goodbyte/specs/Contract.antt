@@ -1,7 +1,6 @@
 -- What the functions of an event promise: the state of the rules after it, every byte of the slices, and what is reported.
 use Prim.Native.Nat.{ℕ}
 use mathlib.Core.Path.{_≡_}
-use mathlib.Core.Bool.{Bool, false, not, _&&_}
 use mathlib.Core.List.{List}
 use Rattle.rules.specs.declared.Group.{Group}
 use Rattle.rules.specs.declared.Outcome.{Outcome}
@@ -11,21 +10,12 @@ use Rattle.rules.specs.Received.{carry}
 use Rattle.meaning.specs.Meaning.{meaningOf}
 use Rattle.meaning.specs.declared.Meaning.{Meaning}
 use Rattle.port.specs.declared.Port.{Port}
-use Rattle.storing.specs.Contract.{Becomes, assembled, state}
-use Rattle.signalling.specs.Contract.{literalTo, stopTo}
+use Rattle.flushing.specs.Contract.{Becomes}
 use Rattle.goodbyte.specs.declared.Reported.{Reported}
 
 pub record Answers (p : Port) (bs ms os : List ℕ) (w : State × Outcome) (r : Reported) (bs′ ms′ os′ : List ℕ) : Type 0 where
   pub port : Becomes p bs ms os (w .0) (r .port) bs′ ms′ os′
   pub outcome : r .outcome ≡ w .1
-
--- 'IXON and IXANY: output resumes.'
-abbrev pub resumed : Settings → Bool → Bool
-resumed x stopped = stopped && not (x .ixon && x .ixany)
-
--- the port at step 3
-abbrev pub begun : Port → Port
-begun p = assembled p (literalTo false (p .input)) (stopTo (resumed (p .settings) (p .output .stopped)) (p .output)) (p .waiting)
 
 -- what is reported of a meaning where f is the foreground group
 abbrev pub Tells : Meaning → Group → Outcome → Type 0

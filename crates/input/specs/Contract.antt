@@ -69,6 +69,11 @@ pub record Within (i : Input) (n : ℕ) : Type 0 where
   pub len : i .queue .len ≤ n
   pub ready : i .ready ≤ i .queue .len
 
+-- The slices have one length, and the numbers are in range.
+pub record Sound (i : Input) (bs ms : List ℕ) : Type 0 where
+  pub same : length bs ≡ length ms
+  pub within : Within i (length bs)
+
 -- The slices have one length, the numbers are in range, and k places are free.
 pub record Room (i : Input) (bs ms : List ℕ) (k : ℕ) : Type 0 where
   pub same : length bs ≡ length ms

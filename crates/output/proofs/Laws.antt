@@ -15,8 +15,9 @@ use Rattle.rules.specs.declared.Settings.{Settings}
 use Rattle.rules.specs.Sizes.{Output as Ruled}
 use Rattle.rules.specs.Output.{columnAfter, queued, queuedWhole}
 use Rattle.rules.proofs.OutputLaws.{queued-append, queued-none}
-use Rattle.output.specs.Contract.{inRange, get, put, Becomes, bytesOf}
-use Rattle.output.specs.declared.Expansion.{Expansion}
+use Rattle.output.specs.Contract.{inRange, get, put, Becomes}
+use Rattle.expansion.specs.Contract.{bytesOf}
+use Rattle.expansion.specs.declared.Expansion.{Expansion}
 use Rattle.output.specs.declared.Output.{Output}
 
 pub get-length : (o : Output) (l : List ℕ) → length (get o l .queue) ≡ min (o .queue .len) (length l)

@@ -1,3 +1,3 @@
 pub mod Laws
-pub mod Expansions
+pub mod Measured
 pub mod Run

@@ -14,10 +14,11 @@ use Rattle.rules.specs.Sizes.{Output as Ruled}
 use Rattle.rules.specs.Output.{expand, columnAfter, columnsAfter, processed, queued, queuedWhole, written, taken, oldest}
 use Rattle.rules.specs.Echo.{rubout}
 use Rattle.rules.proofs.OutputLaws.{written-next}
-use Rattle.output.specs.Contract.{inRange, get, put, Becomes, Writes, Sends, Measures, Extends, takes}
+use Rattle.output.specs.Contract.{inRange, get, put, Becomes, Writes, Sends, takes}
+use Rattle.columns.specs.Contract.{Measures, Extends}
 use Rattle.output.specs.declared.Output.{Output}
 use Rattle.output.specs.declared.Wrote.{Wrote}
-use Rattle.output.specs.declared.Measure.{Measure}
+use Rattle.columns.specs.declared.Measure.{Measure}
 use Rattle.queue.specs.Queue.{held, laid, Takes}
 use Rattle.queue.specs.declared.Taken.{Taken}
 use Rattle.queue.specs.declared.Queue.{Queue}

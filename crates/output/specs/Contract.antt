@@ -1,19 +1,17 @@
 -- An output and its slice as the rules' output (get), the rules' output as an output and a slice (put), and what each
 -- function promises. On the right of each equation stand values at entry only.
-use Prim.Native.Nat.{ℕ, _+_, _-_, _%_, _<_, min}
+use Prim.Native.Nat.{ℕ, _+_, _-_, _%_, min}
 use mathlib.Core.Path.{_≡_}
-use mathlib.Core.Bool.{true, false}
-use mathlib.Core.List.{List, [], _∷_, _++_}
-use lib.ListN.{length, take, drop, replicate}
+use mathlib.Core.List.{List, [], _++_}
+use lib.ListN.{length, take, drop}
 use Rattle.queue.specs.Ring.{stores}
 use Rattle.queue.specs.Queue.{held, fitted, laid}
 use Rattle.rules.specs.declared.Settings.{Settings}
 use Rattle.rules.specs.Sizes.{Output as Ruled}
-use Rattle.rules.specs.Output.{columnsAfter, processed, written, taken, oldest}
+use Rattle.rules.specs.Output.{written, taken, oldest}
 use Rattle.output.specs.declared.Output.{Output}
-use Rattle.output.specs.declared.Expansion.{Expansion}
-use Rattle.output.specs.declared.Expansion.the-variants.{Nothing, Byte, Pair, Spaces}
-use Rattle.output.specs.declared.Measure.{Measure}
+use Rattle.columns.specs.declared.Measure.{Measure}
+use Rattle.columns.specs.Contract.{Measures}
 use Rattle.output.specs.declared.Wrote.{Wrote}
 use Rattle.output.specs.declared.Sent.{Sent}
 
@@ -48,23 +46,6 @@ pub record Sends (o : Output) (l d : List ℕ) (r : Sent) (d′ : List ℕ) : Ty
   pub output : r .output ≡ put (record { queue = drop (length (oldest (get o l) (length d))) (get o l .queue); column = o .column; stopped = o .stopped })
       ((o .queue .head + length (oldest (get o l) (length d))) % length l)
   pub buffer : d′ ≡ oldest (get o l) (length d) ++ drop (length (oldest (get o l) (length d))) d
-
----- What a written byte turns into, and a run that is measured
-
-abbrev pub bytesOf : Expansion → List ℕ
-bytesOf Nothing = []
-bytesOf (Byte b) = b ∷ []
-bytesOf Pair = 13 ∷ 10 ∷ []
-bytesOf (Spaces n) = replicate n 32
-
--- m measures the run bs from column c on into so much room: whether it fits, what is left, the column behind it
-pub record Measures (x : Settings) (room c : ℕ) (bs : List ℕ) (m : Measure) : Type 0 where
-  pub fits : m .fits ≡ true → (m .room + length (processed x c bs) ≡ room) × (m .column ≡ columnsAfter x c (processed x c bs))
-  pub full : m .fits ≡ false → room < length (processed x c bs)
-
--- one byte behind a run that is measured
-abbrev pub Extends : Settings → Measure → ℕ → Measure → Type 0
-Extends x m b r = (room c : ℕ) (bs : List ℕ) → Measures x room c bs m → Measures x room c (bs ++ (b ∷ [])) r
 
 -- the room that an output has in n places, before any byte
 abbrev pub Begins : Output → ℕ → Measure → Type 0

@@ -1,13 +1,16 @@
-// Document 01, 'Output', and how an echo goes into the output queue: expansion, the column, writes, transmits.
+// Document 01, 'Output', and how an echo goes into the output queue: writes, transmits.
 ghost use mathlib.Core.Path.{_≡_};
 ghost use mathlib.Core.List.{[], _∷_};
-ghost use mathlib.Core.Bool.{true, false, _&&_, cond};
+ghost use mathlib.Core.Bool.{false};
 ghost use Prim.Native.Nat.{_+_, _<_, _≤_, _%_};
 ghost use lib.ListN.{length, replicate};
-ghost use Rattle.rules.specs.Output.{capped, columnAfter, columnsAfter, expand, newline as newlineOf, return as returnOf, queued, queuedWhole, processed};
+ghost use Rattle.rules.specs.Output.{queued, queuedWhole, processed};
 ghost use Rattle.rules.specs.Echo.{rubout};
 ghost use Rattle.queue.specs.Queue.{laid};
-ghost use Rattle.output.specs.Contract.{inRange, get, put, Becomes, Writes, Sends, Extends, Begins, bytesOf};
+ghost use Rattle.output.specs.Contract.{inRange, get, Becomes, Writes, Sends, Begins};
+ghost use Rattle.expansion.specs.Contract.{bytesOf};
+use columns::Measure;
+use expansion::Expansion;
 use queue::Queue;
 use rules::Settings;
 
@@ -26,185 +29,6 @@ pub struct Wrote {
 pub struct Sent {
     pub output: Output,
     pub count: usize,
-}
-
-// What a written byte turns into.
-pub enum Expansion {
-    Nothing,
-    Byte(u8),
-    Pair,
-    Spaces(usize),
-}
-
-fn cap(w: u64) -> u32
-    ensures { λ r. ⌜ r ≡ capped w ⌝ }
-{
-    if w > 65535 {
-        return 65528;
-    }
-    w as u32
-}
-
-// 10 gives 0 under OPOST and ONLRET, else it leaves the column
-fn newline_column(x: Settings, c: u32) -> u32
-    ensures { λ r. ⌜ r ≡ capped (cond (x .opost && x .onlret) 0 c) ⌝ }
-{
-    if x.opost {
-        if x.onlret {
-            return 0;
-        }
-        return cap(c as u64);
-    }
-    cap(c as u64)
-}
-
-fn next_column(x: Settings, c: u32, b: u8) -> u32
-    ensures { λ r. ⌜ r ≡ columnAfter x c b ⌝ }
-{
-    let w = c as u64;
-    if b == 13 {
-        return 0;
-    }
-    if b == 8 {
-        if w == 0 {
-            return 0;
-        }
-        return cap(w - 1);
-    }
-    if b == 9 {
-        return cap(w / 8 * 8 + 8);
-    }
-    if b == 10 {
-        return newline_column(x, c);
-    }
-    if b < 32 {
-        return cap(w);
-    }
-    if b == 127 {
-        return cap(w);
-    }
-    cap(w + 1)
-}
-
-fn newline(x: Settings, c: u32) -> Expansion
-    ensures { λ r. ⌜ bytesOf r ≡ newlineOf x c ⌝ }
-{
-    if x.onlcr {
-        if x.onocr {
-            if c == 0 {
-                return Expansion::Byte(10);
-            }
-            return Expansion::Pair;
-        }
-        return Expansion::Pair;
-    }
-    Expansion::Byte(10)
-}
-
-fn carriage_return(x: Settings, c: u32) -> Expansion
-    ensures { λ r. ⌜ bytesOf r ≡ returnOf x c ⌝ }
-{
-    if x.ocrnl {
-        return Expansion::Byte(10);
-    }
-    if x.onocr {
-        if c == 0 {
-            return Expansion::Nothing;
-        }
-        return Expansion::Byte(13);
-    }
-    Expansion::Byte(13)
-}
-
-fn expand(x: Settings, c: u32, b: u8) -> Expansion
-    ensures { λ r. ⌜ bytesOf r ≡ expand x c b ⌝ }
-{
-    if x.opost {
-        if b == 4 {
-            if x.onoeot {
-                return Expansion::Nothing;
-            }
-            return Expansion::Byte(4);
-        }
-        if b == 9 {
-            if x.tab3 {
-                let m = (c % 8) as usize;
-                return Expansion::Spaces(8 - m);
-            }
-            return Expansion::Byte(9);
-        }
-        if b == 13 {
-            return carriage_return(x, c);
-        }
-        if b == 10 {
-            return newline(x, c);
-        }
-    }
-    Expansion::Byte(b)
-}
-
-fn width(e: Expansion) -> usize
-    ensures { λ r. ⌜ r ≡ length (bytesOf e) ⌝ }
-{
-    match e {
-        Expansion::Nothing => 0,
-        Expansion::Byte(_) => 1,
-        Expansion::Pair => 2,
-        Expansion::Spaces(n) => n,
-    }
-}
-
-fn column_after_spaces(x: Settings, c: u32, n: usize) -> u32
-    ensures { λ r. ⌜ r ≡ columnsAfter x c (replicate n 32) ⌝ }
-{
-    let mut column = c;
-    let mut i = 0;
-    while i < n {
-        column = next_column(x, column, 32);
-        i += 1;
-    }
-    column
-}
-
-fn column_after(x: Settings, c: u32, e: Expansion) -> u32
-    ensures { λ r. ⌜ r ≡ columnsAfter x c (bytesOf e) ⌝ }
-{
-    match e {
-        Expansion::Nothing => c,
-        Expansion::Byte(b) => next_column(x, c, b),
-        Expansion::Pair => next_column(x, next_column(x, c, 13), 10),
-        Expansion::Spaces(n) => column_after_spaces(x, c, n),
-    }
-}
-
-// A run of bytes that is measured before it is queued: the room left, the column, and whether it still fits.
-pub struct Measure {
-    pub fits: bool,
-    pub room: usize,
-    pub column: u32,
-}
-
-impl Measure {
-    // with the byte b behind the others
-    pub fn and(self, x: Settings, b: u8) -> Measure
-        ensures { λ r. ⌜ Extends x self b r ⌝ }
-    {
-        let e = expand(x, self.column, b);
-        let w = width(e);
-        let room = self.room;
-        if room < w {
-            return Measure {
-                fits: false,
-                room: 0,
-                column: self.column,
-            };
-        }
-        Measure {
-            fits: self.fits,
-            room: room - w,
-            column: column_after(x, self.column, e),
-        }
-    }
 }
 
 impl Output {
@@ -237,7 +61,7 @@ impl Output {
     {
         let q = self.queue;
         let queue = q.push(out, b);
-        let column = next_column(x, self.column, b);
+        let column = columns::next_column(x, self.column, b);
         Output {
             queue: queue,
             column: column,
@@ -282,8 +106,8 @@ impl Output {
         let mut i = 0;
         while i < src.len() {
             let b = src[i];
-            let e = expand(x, o.column, b);
-            let w = width(e);
+            let e = expansion::expand(x, o.column, b);
+            let w = expansion::width(e);
             let q = o.queue;
             if n - q.len < w {
                 return Wrote {

@@ -14,10 +14,9 @@ use Rattle.rules.proofs.OutputLaws.{taken-fits}
 use Rattle.output.specs.Contract as output
 use Rattle.output.proofs.Laws as law
 use Rattle.port.specs.State.{sizes, get, withOutput}
-use Rattle.port.specs.Contract.{Outcomes, writtenBy, written, transmitted, result, MovesThrough}
+use Rattle.port.specs.Contract.{Outcomes, writtenBy, written, transmitted, result}
 use Rattle.port.specs.declared.Port.{Port}
 use Rattle.port.specs.declared.Answered.{Answered}
-use Rattle.port.specs.declared.Moved.{Moved}
 
 ---- No second result
 
@@ -25,18 +24,6 @@ pub one-answer : (o : Outcomes) (r q : Answered) (m k d e : List ℕ) → result
 one-answer o r q m k d e a b =
     let s : result r m d ≡ result q k e = a ∙ sym b in
     (ap (λ (y : Outcomes). record { port = y .port; answer = y .answer }) s, ap (λ (y : Outcomes). y .slice) s, ap (λ (y : Outcomes). y .lent) s)
-
-pub one-move : (p : Port) (os src d : List ℕ) (r q : Moved) (m k e f : List ℕ) → MovesThrough p os src d r m e → MovesThrough p os src d q k f
-    → (r ≡ q) × (m ≡ k) × (e ≡ f)
-one-move p os src d r q m k e f a b = (
-  (λ i. record {
-    port = (a .port ∙ sym (b .port)) i;
-    written = (a .written ∙ sym (b .written)) i;
-    given = (a .given ∙ sym (b .given)) i;
-  }),
-  a .slice ∙ sym (b .slice),
-  a .buffer ∙ sym (b .buffer),
-)
 
 ---- Whatever the input is
 

@@ -2,10 +2,9 @@
 -- transmit are lent the output's slice alone, so the rules are asked at a state whose input is empty; `for-any-input` in
 -- proofs/Promises.antt says that they answer the same at every input.
 use Prim.Native.Nat.{ℕ, _+_, _%_}
-use mathlib.Core.Path.{_≡_}
 use mathlib.Core.Bool.{Bool, true, false, cond}
 use mathlib.Core.List.{List, []}
-use lib.ListN.{length, drop}
+use lib.ListN.{length}
 use Rattle.queue.specs.Ring.{stores}
 use Rattle.rules.specs.declared.Answer.{Answer}
 use Rattle.rules.specs.declared.Outcome.{Outcome}
@@ -17,7 +16,6 @@ use Rattle.output.specs.Contract.{put}
 use Rattle.port.specs.State.{sizes, get, withOutput}
 use Rattle.port.specs.declared.Port.{Port}
 use Rattle.port.specs.declared.Answered.{Answered}
-use Rattle.port.specs.declared.Moved.{Moved}
 use Rattle.queue.specs.Queue.{laid}
 use Rattle.rules.specs.Settings.{defaults}
 use Rattle.rules.specs.declared.Group.the-variants.{Nobody}
@@ -72,25 +70,6 @@ result r os lent = record { port = r .port; slice = os; lent = lent; answer = r 
 abbrev pub flushed : Port → ℕ → Port
 flushed p n =
     withOutput p (put (record { queue = []; column = p .output .column; stopped = p .output .stopped }) (p .output .queue .head % n))
-
----- A write that goes on from the rest: as much of src as the port takes, then what transmit gives into d, then the rest
-
-abbrev pub first : Port → List ℕ → List ℕ → Outcomes
-first p os src = written p os src
-
-abbrev pub second : Port → List ℕ → List ℕ → List ℕ → Outcomes
-second p os src d = transmitted (first p os src .port) (first p os src .slice) d
-
-abbrev pub third : Port → List ℕ → List ℕ → List ℕ → Outcomes
-third p os src d =
-    written (second p os src d .port) (second p os src d .slice) (drop (first p os src .answer .count) src)
-
-pub record MovesThrough (p : Port) (os src d : List ℕ) (r : Moved) (os′ d′ : List ℕ) : Type 0 where
-  pub port : r .port ≡ third p os src d .port
-  pub slice : os′ ≡ third p os src d .slice
-  pub buffer : d′ ≡ second p os src d .lent
-  pub written : r .written ≡ first p os src .answer .count + third p os src d .answer .count
-  pub given : r .given ≡ second p os src d .answer .count
 
 ---- A fresh port: document 01's line, default settings, nothing held
 

@@ -29,13 +29,6 @@ pub struct Answered {
     pub answer: Answer,
 }
 
-// How many bytes of a buffer were written, and how many were handed out meanwhile.
-pub struct Moved {
-    pub port: Port,
-    pub written: usize,
-    pub given: usize,
-}
-
 impl Port {
     // 'A line: 254 bytes and its delimiter. Stored input: 1,024 places. Output queue: 2,048 bytes.'
     pub const LINE: usize = 254;
@@ -118,26 +111,6 @@ impl Port {
         let output = o.flush(n);
         self.with_output(output)
     }
-
-    // 'Later writes go on from the rest': as much of src as the port takes, then what transmit gives into dst, then the rest.
-    pub fn write_through(self, out: &mut [u8], src: &[u8], dst: &mut [u8]) -> Moved
-        ensures { λ r. ⌜ promise.MovesThrough self (now (out .entry)) (now (src .entry)) (now (dst .entry)) r (now (out .exit)) (now (dst .exit)) ⌝ }
-    {
-        let a = self.write(out, src);
-        let p = a.port;
-        let n = taken(a);
-        let b = p.transmit(out, dst);
-        let q = b.port;
-        let given = taken(b);
-        let c = q.write(out, &src[n..]);
-        let port = c.port;
-        let more = taken(c);
-        Moved {
-            port: port,
-            written: n + more,
-            given: given,
-        }
-    }
 }
 
 // 'a write of one byte or more of which none could be taken'
@@ -148,13 +121,6 @@ fn nothing_taken(len: usize, count: usize) -> bool
         return count == 0;
     }
     false
-}
-
-fn taken(a: Answered) -> usize
-    ensures { λ r. ⌜ r ≡ a .answer .count ⌝ }
-{
-    let x = a.answer;
-    x.count
 }
 
 // the port and the answer

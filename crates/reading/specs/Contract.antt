@@ -1,24 +1,16 @@
--- What a read takes from the stored input and what a change of ICANON makes of it, over the numbers and the two slices.
+-- What a read takes from the stored input, over the numbers and the two slices.
 -- On the right of each equation stand values at entry only.
-use Prim.Native.Nat.{ℕ, _+_, _-_, _*_, _/_, _%_, _≤_}
+use Prim.Native.Nat.{ℕ, _+_, _-_, _%_, _≤_}
 use mathlib.Core.Path.{_≡_}
-use mathlib.Core.Bool.{Bool, true, false}
-use mathlib.Core.List.{List, _++_, map}
+use mathlib.Core.List.{List, _++_}
 use lib.ListN.{length, take, drop}
-use Rattle.queue.specs.Ring.{stores}
 use Rattle.queue.specs.Queue.{held}
 use Rattle.rules.specs.Sizes.{Place, Input as Ruled, used}
-use Rattle.rules.specs.Settings.{changedInput}
 use Rattle.rules.specs.Reads.{Part, bytesOf, firstLine, firstBytes}
 use Rattle.input.specs.declared.Input.{Input}
-use Rattle.input.specs.Contract.{get, put, Within, byteOf, markOf, bit}
+use Rattle.input.specs.Contract.{get, put, Within}
 use Rattle.reading.specs.declared.Taken.{Taken}
 use Rattle.reading.specs.declared.Line.{Line}
-
--- The slices have one length, and the numbers are in range.
-pub record Sound (i : Input) (bs ms : List ℕ) : Type 0 where
-  pub same : length bs ≡ length ms
-  pub within : Within i (length bs)
 
 ---- Reads
 
@@ -77,25 +69,3 @@ pub record Given (i : Input) (bs d : List ℕ) (k taken : ℕ) (r : Taken) (d′
         literal = i .literal;
       }
   pub buffer : d′ ≡ take k (held (i .queue) bs) ++ drop k d
-
----- New settings
-
--- After the call all that is stored is w, finished; it is laid from the old head on, and every other place of both slices
--- is as it was.
-pub record Laid (i : Input) (bs ms : List ℕ) (w : Ruled) (r : Input) (bs′ ms′ : List ℕ) : Type 0 where
-  pub input : r ≡ put w (i .queue .head % length bs)
-  pub bytes : bs′ ≡ stores (length bs) bs (i .queue .head % length bs) (map byteOf (w .finished))
-  pub marks : ms′ ≡ stores (length ms) ms (i .queue .head % length ms) (map markOf (w .finished))
-
--- 'if ICANON goes off, all stored bytes become readable and end-of-file marks vanish'
-abbrev pub GoesOff : Input → List ℕ → List ℕ → Input → List ℕ → List ℕ → Type 0
-GoesOff i bs ms r bs′ ms′ = Laid i bs ms (changedInput true false (get i bs ms)) r bs′ ms′
-
--- 'If it goes on, the stored bytes, if any, become one finished line with no delimiter.' The bytes stay as they are.
-abbrev pub GoesOn : Input → List ℕ → Input → List ℕ → Type 0
-GoesOn i ms r ms′ =
-    (bs : List ℕ) → length bs ≡ length ms → Laid i bs ms (changedInput false true (get i bs ms)) r bs ms′
-
--- the mark byte m of a place of one line, its last or another
-abbrev pub inLine : Bool → ℕ → ℕ
-inLine last m = m % 2 + 2 * bit last + 8 * (m / 8 % 2)

@@ -26,8 +26,10 @@ use Rattle.port.specs.declared.Port.{Port}
 use Rattle.port.specs.declared.Answered.{Answered}
 use Rattle.calling.specs.Contract.{stepOf, Now}
 use Rattle.calling.proofs.Promises.{same-state}
-use Rattle.reads.specs.Contract.{stateOf, took, Takes, Reads}
-use Rattle.reads.proofs.Laws.{same-place, sound-places, there}
+use Rattle.reads.specs.Contract.{Reads}
+use Rattle.taking.specs.Contract.{stateOf, took, Takes}
+use Rattle.reads.proofs.Laws.{sound-places, there}
+use Rattle.taking.proofs.Laws.{same-place}
 
 ---- No second result
 
@@ -49,7 +51,7 @@ record Fine (p : Port) (i : Input) (bs ms : List ℕ) (w : State × Reply) : Typ
   foreground : w .0 .foreground ≡ p .foreground
   hung : w .0 .hungUp ≡ p .hung
 
-module _ (p : Port) (i : Input) (bs ms d : List ℕ) (h : reading.Sound i bs ms) where
+module _ (p : Port) (i : Input) (bs ms d : List ℕ) (h : input.Sound i bs ms) where
   abbrev s : State
   s = stateOf p i bs ms
 

@@ -1,4 +1,4 @@
--- What a hangup promises.
+-- What a hangup and an interrupt promise.
 use Prim.Native.Nat.{ℕ}
 use mathlib.Core.Path.{_≡_}
 use mathlib.Core.Bool.{true}
@@ -7,7 +7,7 @@ use lib.ListN.{length}
 use Rattle.rules.specs.declared.Outcome.{Outcome}
 use Rattle.rules.specs.Sizes.{State}
 use Rattle.port.specs.declared.Port.{Port}
-use Rattle.storing.specs.Contract.{state}
+use Rattle.flushing.specs.Contract.{state}
 use Rattle.goodbyte.specs.Contract.{Answers}
 use Rattle.goodbyte.specs.declared.Reported.{Reported}
 

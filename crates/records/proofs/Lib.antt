@@ -1,4 +1,3 @@
 pub mod Bodies
 pub mod Decoding
-pub mod Texts
 pub mod Promises

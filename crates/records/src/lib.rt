@@ -1,21 +1,14 @@
-// Document 01, 'The trace program': what a record asks for, and the line that is printed for it.
+// Document 01, 'The trace program': what a record asks for.
 ghost use mathlib.Core.Path.{_≡_};
-ghost use mathlib.Core.List.{[], _∷_};
+ghost use mathlib.Core.List.{[]};
 ghost use mathlib.Core.Bool.{cond};
 ghost use lib.ListN.{length};
 ghost use Prim.Native.Nat.{_<_};
 ghost use lib.Dec.{eqb};
 ghost use Rattle.rules.specs.Trace.{«two», «four», asks, malformed, settingsRecord, readRecord, writeRecord, transmitRecord, flushRecord, foregroundRecord};
-ghost use Rattle.rules.specs.Trace.{digits, decimal, hexDigit, hexOrDash, signalWord, verdictWord, outcomeWord, cutLine, fullLine};
 ghost use Rattle.records.specs.Records.{told, count, number, Decodes};
-ghost use Rattle.records.specs.Lines.{Puts, Prints, refusalWord, lineOf};
-use rules::Answer;
 use rules::Call;
 use rules::Event;
-use rules::Outcome;
-use rules::Refusal;
-use rules::Signal;
-use rules::Verdict;
 
 // What a record asks for, and how many bytes are lent to the call: for a write the body itself, for a read and a
 // transmit so many zeros.
@@ -202,157 +195,4 @@ pub fn decode(kind: usize, body: &[u8]) -> Decoded
         13 => foreground_record(body),
         _ => Decoded::Malformed,
     }
-}
-
-// Each of these writes a text from place at on, as much of it as the buffer holds, and answers the place after it.
-fn put_byte(line: &mut [u8], at: usize, b: u8) -> usize
-    ensures { λ r. ⌜ Puts (now (line .entry)) at (b ∷ []) r (now (line .exit)) ⌝ }
-{
-    if at < line.len() {
-        line[at] = b;
-        return at + 1;
-    }
-    at
-}
-
-fn put_word(line: &mut [u8], at: usize, word: &[u8]) -> usize
-    ensures { λ r. ⌜ Puts (now (line .entry)) at (now (word .entry)) r (now (line .exit)) ⌝ }
-{
-    let mut p = at;
-    let mut i = 0;
-    while i < word.len() {
-        p = put_byte(line, p, word[i]);
-        i += 1;
-    }
-    p
-}
-
-fn put_digits(line: &mut [u8], at: usize, most: usize, n: usize) -> usize
-    ensures { λ r. ⌜ Puts (now (line .entry)) at (digits most n) r (now (line .exit)) ⌝ }
-{
-    if most == 0 {
-        return at;
-    }
-    if n < 10 {
-        return put_byte(line, at, 48 + n as u8);
-    }
-    let p = put_digits(line, at, most - 1, n / 10);
-    let d = n % 10;
-    put_byte(line, p, 48 + d as u8)
-}
-
-fn put_decimal(line: &mut [u8], at: usize, n: usize) -> usize
-    ensures { λ r. ⌜ Puts (now (line .entry)) at (decimal n) r (now (line .exit)) ⌝ }
-{
-    put_digits(line, at, 5, n)
-}
-
-// 'lower hex'
-fn hex_digit(d: u8) -> u8
-    requires { ⌜ d < 16 ⌝ }
-    ensures { λ r. ⌜ r ≡ hexDigit d ⌝ }
-{
-    if d < 10 {
-        return 48 + d;
-    }
-    87 + d
-}
-
-// 'bytes given in lower hex or `-`'
-fn put_hex(line: &mut [u8], at: usize, bytes: &[u8]) -> usize
-    ensures { λ r. ⌜ Puts (now (line .entry)) at (hexOrDash (now (bytes .entry))) r (now (line .exit)) ⌝ }
-{
-    if bytes.len() == 0 {
-        return put_byte(line, at, b'-');
-    }
-    let mut p = at;
-    let mut i = 0;
-    while i < bytes.len() {
-        let b = bytes[i];
-        p = put_byte(line, p, hex_digit(b / 16));
-        p = put_byte(line, p, hex_digit(b % 16));
-        i += 1;
-    }
-    p
-}
-
-fn put_signal(line: &mut [u8], at: usize, signal: Signal) -> usize
-    ensures { λ r. ⌜ Puts (now (line .entry)) at (signalWord signal) r (now (line .exit)) ⌝ }
-{
-    match signal {
-        Signal::Int => put_word(line, at, b"int"),
-        Signal::Quit => put_word(line, at, b"quit"),
-        Signal::Tstp => put_word(line, at, b"tstp"),
-        Signal::Hup => put_word(line, at, b"hup"),
-    }
-}
-
-fn put_verdict(line: &mut [u8], at: usize, verdict: Verdict) -> usize
-    ensures { λ r. ⌜ Puts (now (line .entry)) at (verdictWord verdict) r (now (line .exit)) ⌝ }
-{
-    match verdict {
-        Verdict::Allowed => put_word(line, at, b"allowed"),
-        Verdict::Eio => put_word(line, at, b"eio"),
-        Verdict::Ttin => put_word(line, at, b"ttin"),
-        Verdict::Ttou => put_word(line, at, b"ttou"),
-    }
-}
-
-// `r` and a refusal number
-fn put_refusal(line: &mut [u8], at: usize, refusal: Refusal) -> usize
-    ensures { λ r. ⌜ Puts (now (line .entry)) at (refusalWord refusal) r (now (line .exit)) ⌝ }
-{
-    match refusal {
-        Refusal::BadSettings => put_word(line, at, b"r1"),
-        Refusal::OutOfRange => put_word(line, at, b"r2"),
-        Refusal::Nothing => put_word(line, at, b"r3"),
-        Refusal::ReadWaits => put_word(line, at, b"r4"),
-        Refusal::HungUp => put_word(line, at, b"r5"),
-    }
-}
-
-// 'outcome (`ok`, `wait`, `int`, `quit`, `tstp`, `hup`, or `r` and a refusal number)'
-fn put_outcome(line: &mut [u8], at: usize, outcome: Outcome) -> usize
-    ensures { λ r. ⌜ Puts (now (line .entry)) at (outcomeWord outcome) r (now (line .exit)) ⌝ }
-{
-    match outcome {
-        Outcome::Ok => put_word(line, at, b"ok"),
-        Outcome::Wait => put_word(line, at, b"wait"),
-        Outcome::Reports(signal) => put_signal(line, at, signal),
-        Outcome::Judged(verdict) => put_verdict(line, at, verdict),
-        Outcome::Refused(refusal) => put_refusal(line, at, refusal),
-    }
-}
-
-// 'A line each: index from 0, kind, outcome, count, bytes given.'
-pub fn put_line(line: &mut [u8], index: usize, kind: usize, answer: Answer, given: &[u8]) -> usize
-    ensures { λ r. ⌜ Prints (now (line .entry)) (lineOf index kind answer (now (given .entry))) r (now (line .exit)) ⌝ }
-{
-    let outcome = answer.outcome;
-    let a = put_decimal(line, 0, index);
-    let b = put_byte(line, a, b' ');
-    let c = put_decimal(line, b, kind);
-    let d = put_byte(line, c, b' ');
-    let e = put_outcome(line, d, outcome);
-    let f = put_byte(line, e, b' ');
-    let g = put_decimal(line, f, answer.count);
-    let h = put_byte(line, g, b' ');
-    let i = put_hex(line, h, given);
-    put_byte(line, i, b'\n')
-}
-
-// 'A cut last record prints its index and `cut`.'
-pub fn put_cut(line: &mut [u8], index: usize) -> usize
-    ensures { λ r. ⌜ Prints (now (line .entry)) (cutLine index) r (now (line .exit)) ⌝ }
-{
-    let at = put_decimal(line, 0, index);
-    put_word(line, at, b" cut\n")
-}
-
-// 'one more, even cut, prints its index and `full` and ends'
-pub fn put_full(line: &mut [u8], index: usize) -> usize
-    ensures { λ r. ⌜ Prints (now (line .entry)) (fullLine index) r (now (line .exit)) ⌝ }
-{
-    let at = put_decimal(line, 0, index);
-    put_word(line, at, b" full\n")
 }

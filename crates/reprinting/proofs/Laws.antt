@@ -15,8 +15,9 @@ use Rattle.rules.specs.Output.{columnsAfter, processed, queued}
 use Rattle.rules.specs.Editing.{units, reprint}
 use Rattle.rules.specs.Echo.{visible, lineEcho, editShows, editEcho}
 use Rattle.rules.proofs.OutputLaws.{append-nil, processed-append, processed-part}
-use Rattle.output.specs.Contract.{inRange, get, Becomes, Measures, Extends, Begins}
-use Rattle.output.specs.declared.Measure.{Measure}
+use Rattle.output.specs.Contract.{inRange, get, Becomes, Begins}
+use Rattle.columns.specs.Contract.{Measures, Extends}
+use Rattle.columns.specs.declared.Measure.{Measure}
 use Rattle.output.specs.declared.Output.{Output}
 use Rattle.output.proofs.Laws.{becomes, get-after, get-length, column-after, same-size, range-len, twice, whole-fits, full-of}
 use Rattle.echo.specs.Contract.{echoed, Echoes, ExtendsBy}

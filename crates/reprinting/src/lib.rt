@@ -8,8 +8,8 @@ ghost use Rattle.rules.specs.Echo.{editEcho};
 ghost use Rattle.input.specs.Contract.{get, Within};
 ghost use Rattle.echo.specs.Contract.{Echoes, ExtendsBy};
 ghost use Rattle.reprinting.specs.Contract.{placeEcho, reprinted, needed};
+use columns::Measure;
 use input::Input;
-use output::Measure;
 use output::Output;
 use rules::Settings;
 

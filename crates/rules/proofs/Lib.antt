@@ -1,7 +1,6 @@
 -- What is proved of the rules.
 pub mod Check
 pub mod Examples
-pub mod WrongPorts
 pub mod Traces
 pub mod Classes
 pub mod OutputLaws

@@ -1,2 +1,1 @@
-pub mod Pairs
 pub mod Places

@@ -18,8 +18,8 @@ use Rattle.echo.specs.Contract.{Echoes}
 use Rattle.port.specs.State.{withOutput}
 use Rattle.port.specs.Contract.{flushed}
 use Rattle.port.specs.declared.Port.{Port}
-use Rattle.storing.specs.Contract.{state, sizesOf, Ranged, Ready, Becomes, Turns, assembled}
-use Rattle.storing.proofs.Laws.{as-state, as-assembled, input-stays, output-stays, stays, then-shown}
+use Rattle.flushing.specs.Contract.{state, sizesOf, Ranged, Ready, Becomes, Turns, assembled}
+use Rattle.flushing.proofs.Laws.{as-state, as-assembled, input-stays, output-stays, stays, then-shown}
 use Rattle.signalling.specs.Contract.{literalTo, stopTo}
 
 pub ready-for : (p : Port) (n : ℕ) (bs ms os : List ℕ) → Ranged p n (length os) → length bs ≡ n → length ms ≡ n → Ready p bs ms os

@@ -6,7 +6,7 @@ ghost use Rattle.rules.specs.Flushing as flushing;
 ghost use Rattle.rules.specs.Echo as echo;
 ghost use Rattle.rules.specs.Received as steps;
 ghost use Rattle.port.specs.State.{withOutput};
-ghost use Rattle.storing.specs.Contract.{Turns, Ranged, assembled};
+ghost use Rattle.flushing.specs.Contract.{Turns, Ranged, assembled};
 ghost use Rattle.signalling.specs.Contract.{literalTo, stopTo};
 use port::Port;
 
@@ -15,7 +15,7 @@ pub fn flush_both(p: Port, n: usize, out: &[u8]) -> Port
     requires { ⌜ Ranged p n (length (now out)) ⌝ }
     ensures { λ r. ⌜ Turns p n (now (out .entry)) (λ z s. flushing.flushBoth s) r (now (out .entry)) ⌝ }
 {
-    let q = storing::flush_input(p, n, out);
+    let q = flushing::flush_input(p, n, out);
     q.flush_output(out.len())
 }
 
@@ -57,5 +57,5 @@ pub fn sets_literal(p: Port) -> Port
     let input = i.with_literal(true);
     let output = p.output;
     let waiting = p.waiting;
-    storing::assemble(p, input, output, waiting)
+    flushing::assemble(p, input, output, waiting)
 }

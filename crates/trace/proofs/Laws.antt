@@ -30,13 +30,13 @@ use Rattle.rules.proofs.OutputLaws.{append-nil}
 use Rattle.port.specs.State.{sizes, get}
 use Rattle.port.specs.declared.Port.{Port}
 use Rattle.port.specs.declared.Answered.{Answered}
-use Rattle.records.specs.Lines.{Prints, lineOf}
+use Rattle.lines.specs.Lines.{Prints, lineOf}
 use Rattle.records.specs.Records.{Decodes, lentOf, meant, told}
 use Rattle.records.specs.declared.Decoded.{Decoded}
 use Rattle.records.specs.declared.Decoded.the-variants.{WellFormed, Malformed}
 use Rattle.discipline.specs.Contract.{Held, Exact, Stepped, held}
 use Rattle.discipline.proofs.Promises.{one-exact}
-use Rattle.records.proofs.Promises.{prints-unique}
+use Rattle.lines.proofs.Promises.{prints-unique}
 use Rattle.trace.specs.Contract.{answeredOf, givenOf, lentFrom, Exactly, Carries, Records}
 use Rattle.trace.specs.declared.Recorded.{Recorded}
 use Rattle.trace.specs.declared.Carried.{Carried}

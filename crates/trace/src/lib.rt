@@ -110,7 +110,7 @@ pub fn record(
     let port = c.port;
     let answer = c.answer;
     let given = c.given;
-    let length = records::put_line(line, index, kind, answer, &lent[..given]);
+    let length = lines::put_line(line, index, kind, answer, &lent[..given]);
     Recorded {
         port: port,
         length: length,

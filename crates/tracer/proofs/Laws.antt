@@ -6,8 +6,8 @@ use mathlib.Core.List.{List}
 use lib.ListN.{length, take, drop, length-drop}
 use lib.Seq.{take-all}
 use Rattle.stream.specs.declared.Stream.{Stream}
-use Rattle.stream.specs.declared.Fed.{Fed}
-use Rattle.stream.specs.Contract.{Feeds}
+use Rattle.feeding.specs.declared.Fed.{Fed}
+use Rattle.feeding.specs.Contract.{Feeds}
 
 module _ (g : Stream) (bs ms os kept piece : List ℕ) (at : ℕ) (l : List ℕ) (r : Fed) (bs′ ms′ os′ kept′ l′ : List ℕ) where
   -- the code hands over the piece from a place on

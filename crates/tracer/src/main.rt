@@ -2,7 +2,7 @@
 // written is decided in `stream`.
 ghost use mathlib.Core.Path.{_≡_};
 ghost use mathlib.Core.Bool.{true};
-ghost use Rattle.stream.specs.Pieces.{Passes};
+ghost use Rattle.feeding.specs.Pieces.{Passes};
 use libc::STDIN_FILENO;
 use libc::STDOUT_FILENO;
 use port::Port;
@@ -29,7 +29,7 @@ fn pass(
     let mut s = g;
     let mut at = 0;
     while at < piece.len() {
-        let f = stream::feed(s, bytes, marks, out, kept, &piece[at..], &mut line);
+        let f = feeding::feed(s, bytes, marks, out, kept, &piece[at..], &mut line);
         let n = f.length;
         let is_written = io::write_all(STDOUT_FILENO, &line[..n]);
         s = f.stream;

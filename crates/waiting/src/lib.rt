@@ -1,136 +1,15 @@
-// The waiting read and its timer: document 01, 'Reads'.
+// Document 01, 'Reads': when a read waits, and when what is stored is enough for it.
 ghost use mathlib.Core.Path.{_≡_};
 ghost use mathlib.Core.Bool.{_||_};
 ghost use mathlib.Core.List.{List};
-ghost use Prim.Native.Nat.{_-_, min};
+ghost use Prim.Native.Nat.{min};
 ghost use lib.ListN.{length};
 ghost use lib.Dec.{eqb, ltb};
 ghost use Rattle.rules.specs.Sizes.{Place};
-ghost use Rattle.rules.specs.Flushing as flushing;
-ghost use Rattle.rules.specs.Received as received;
-ghost use Rattle.rules.specs.Fit as fit;
 ghost use Rattle.rules.specs.Reads as read;
 ghost use Rattle.rules.specs.Step as step;
 use rules::Settings;
-use rules::Timer;
 use rules::Waiting;
-
-// The timer of 'MIN and TIME above 0' is the one in force: it runs between bytes.
-pub fn between_bytes(x: Settings) -> bool
-    ensures { λ r. ⌜ r ≡ flushing.betweenBytes x ⌝ }
-{
-    if x.icanon {
-        return false;
-    }
-    x.min > 0 && x.time > 0
-}
-
-// 'An input flush turns this timer off, expired or not, until the next unit.' The timer of MIN 0: 'no flush touches it'.
-pub fn timer_flushed(between: bool, w: Waiting) -> Waiting
-    ensures { λ r. ⌜ r ≡ flushing.timerFlushed between w ⌝ }
-{
-    match w {
-        Waiting::Idle => Waiting::Idle,
-        Waiting::Untimed { count } => Waiting::Untimed { count },
-        Waiting::Timed { count, timer: _ } => {
-            if between {
-                return Waiting::Untimed { count };
-            }
-            w
-        }
-    }
-}
-
-// 'the timer starts at TIME'
-fn started(x: Settings, count: usize) -> Waiting
-    ensures { λ r. ⌜ r ≡ Waiting.Timed count (record { left = x .time }) ⌝ }
-{
-    Waiting::Timed {
-        count,
-        timer: Timer { left: x.time },
-    }
-}
-
-// 'it starts again with each further unit'; at zero 'new bytes no longer restart it'
-fn restarted(x: Settings, count: usize, timer: Timer) -> Waiting
-    ensures { λ r. ⌜ r ≡ fit.restartedOn (eqb (timer .left) 0) x count timer ⌝ }
-{
-    if timer.left == 0 {
-        return Waiting::Timed { count, timer };
-    }
-    started(x, count)
-}
-
-// A unit is stored.
-pub fn timer_stored(between: bool, x: Settings, w: Waiting) -> Waiting
-    ensures { λ r. ⌜ r ≡ fit.timerStored between x w ⌝ }
-{
-    match w {
-        Waiting::Idle => Waiting::Idle,
-        Waiting::Untimed { count } => {
-            if between {
-                return started(x, count);
-            }
-            Waiting::Untimed { count }
-        }
-        Waiting::Timed { count, timer } => {
-            if between {
-                return restarted(x, count, timer);
-            }
-            Waiting::Timed { count, timer }
-        }
-    }
-}
-
-// at zero it stays
-fn one_less(left: u8) -> u8
-    ensures { λ r. ⌜ r ≡ left - 1 ⌝ }
-{
-    if left == 0 {
-        return 0;
-    }
-    left - 1
-}
-
-// The timer a tenth of a second later, where it is lent.
-pub fn tick(t: &mut Timer)
-    ensures { λ _. ⌜ now (t .exit) ≡ record { left = now (t .entry) .left - 1 } ⌝ }
-{
-    t.left = one_less(t.left);
-}
-
-// The same by value: the timer is lent to `tick`.
-pub fn lower(t: Timer) -> Timer
-    ensures { λ r. ⌜ r ≡ record { left = t .left - 1 } ⌝ }
-{
-    let mut u = t;
-    tick(&mut u);
-    u
-}
-
-// 'While a read waits, each tenth of a second lowers it by one.'
-pub fn lowered(w: Waiting) -> Waiting
-    ensures { λ r. ⌜ r ≡ received.lowered w ⌝ }
-{
-    match w {
-        Waiting::Idle => Waiting::Idle,
-        Waiting::Untimed { count } => Waiting::Untimed { count },
-        Waiting::Timed { count, timer } => Waiting::Timed {
-            count,
-            timer: lower(timer),
-        },
-    }
-}
-
-pub fn expired(w: Waiting) -> bool
-    ensures { λ r. ⌜ r ≡ read.expired w ⌝ }
-{
-    match w {
-        Waiting::Idle => false,
-        Waiting::Untimed { count: _ } => false,
-        Waiting::Timed { count: _, timer } => timer.left == 0,
-    }
-}
 
 // Refusal 4: 'a read waits, and .. a read comes non-blocking or with another length'.
 pub fn clashes(w: Waiting, nonblocking: bool, n: usize) -> bool
@@ -188,7 +67,7 @@ pub fn begins(x: Settings, stored: usize, n: usize) -> Waiting
         return Waiting::Untimed { count: n };
     }
     if starts(x, stored) {
-        return started(x, n);
+        return timing::started(x, n);
     }
     Waiting::Untimed { count: n }
 }

@@ -10,12 +10,13 @@ use lib.Seq.{take-at, drop-at, take-all, take-nil, take-append-le, take-append-a
 use borrow.Rule.Slice.PartMut.{putMid}
 use Rattle.rules.specs.Trace.{trace}
 use Rattle.rules.proofs.OutputLaws.{append-nil}
-use Rattle.records.specs.Lines.{Prints}
+use Rattle.lines.specs.Lines.{Prints}
 use Rattle.stream.specs.declared.Stream.{Stream}
-use Rattle.stream.specs.declared.Fed.{Fed}
-use Rattle.stream.specs.Contract.{future, left, beginning, Feeds}
+use Rattle.feeding.specs.declared.Fed.{Fed}
+use Rattle.stream.specs.Contract.{future, left, beginning}
+use Rattle.feeding.specs.Contract.{Feeds}
 use Rattle.stream.proofs.Laws.{at-end}
-use Rattle.stream.proofs.Pieces.{future-begins}
+use Rattle.feeding.proofs.Pieces.{future-begins}
 
 ---- A line more in the buffer
 

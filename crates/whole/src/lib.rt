@@ -1,6 +1,6 @@
 // Document 01, 'The trace program', on an input that is there as a whole: every record in turn, a line each.
 ghost use Rattle.rules.specs.Trace.{trace};
-ghost use Rattle.records.specs.Lines.{Prints};
+ghost use Rattle.lines.specs.Lines.{Prints};
 use port::Port;
 use stream::Stream;
 
@@ -16,7 +16,7 @@ pub fn whole(input: &[u8], dst: &mut [u8]) -> usize
     let mut at = 0;
     let mut written = 0;
     while at < input.len() {
-        let f = stream::feed(
+        let f = feeding::feed(
             s,
             &mut bytes,
             &mut marks,

@@ -3,10 +3,6 @@ use Rattle.changes.proofs.Laws.{sound-marks, stays-on, stays-off, goes-
 use borrow.Author.Needs.{needs}
 use Rattle.changes.proofs.change_input.Statement.{statement}
 use Rattle.changes.proofs.change_input.Tie as tie
-use Rattle.changes.proofs.change_input.Reads as reads
-use Rattle.changes.proofs.change_input.Lts as lts
-use Rattle.reading.proofs.one_line.Reads as one-line-reads
-use Rattle.reading.proofs.without_marks.Reads as without-marks-reads
 
 returns : tie.Need-returns
 returns c = stays-on ((c .before .before .before .before .args .i)) ((c .before .before .before .before .args .bytes .now)) ((c .before .before .before .before .args .marks .now)) ((c .before .before .before .before .args .was)) ((c .before .before .before .before .args .is)) (c .before .if1 .taken) (c .if2 .taken)

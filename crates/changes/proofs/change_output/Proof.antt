@@ -3,9 +3,6 @@ use Rattle.changes.proofs.Laws.{output-on, output-off, output-stays}
 use borrow.Author.Needs.{needs}
 use Rattle.changes.proofs.change_output.Statement.{statement}
 use Rattle.changes.proofs.change_output.Tie as tie
-use Rattle.changes.proofs.change_output.Reads as reads
-use Rattle.changes.proofs.change_output.Lts as lts
-use Rattle.output.proofs.Output.stop.Reads as stop-reads
 
 returns : tie.Need-returns
 returns c = output-on ((c .before .before .args .o)) ((c .before .before .args .was)) ((c .before .before .args .is)) (c .before .if1 .taken) (c .if2 .taken)

@@ -6,16 +6,6 @@ use Rattle.changes.proofs.Laws.{fitted-sound, set-waits, set-good, set-
 use borrow.Author.Needs.{needs}
 use Rattle.changes.proofs.set.Statement.{statement}
 use Rattle.changes.proofs.set.Tie as tie
-use Rattle.changes.proofs.set.Reads as reads
-use Rattle.changes.proofs.set.Lts as lts
-use Rattle.port.proofs.says.Reads as says-reads
-use Rattle.changes.proofs.change_input.Reads as change-input-reads
-use Rattle.changes.proofs.change_output.Reads as change-output-reads
-use Rattle.changes.proofs.with_settings.Reads as with-settings-reads
-use Rattle.input.proofs.Input.fit.Reads as fit-reads
-use Rattle.queue.proofs.least.Reads as least-reads
-use Rattle.settings.proofs.acceptable.Reads as acceptable-reads
-use Rattle.waiting.proofs.a_read_waits.Reads as a-read-waits-reads
 
 a-read-waits-requires : tie.Need-a-read-waits-requires
 a-read-waits-requires c κs = search needs

@@ -7,7 +7,7 @@ use Rattle.edits.proofs.edit.Tie as tie
 use Rattle.edits.proofs.edit.Reads as reads
 use Rattle.edits.proofs.edit.Lts as lts
 use Rattle.editing.proofs.last_unit.Reads as last-unit-reads
-use Rattle.editing.proofs.last_word.Reads as last-word-reads
+use Rattle.words.proofs.last_word.Reads as last-word-reads
 use Rattle.editing.proofs.whole_line.Reads as whole-line-reads
 use Rattle.edits.proofs.erases.Reads as erases-reads
 use Rattle.edits.proofs.kills.Reads as kills-reads

@@ -1,14 +1,14 @@
 -- `edits::erases` meets its contract. Assumes nothing.
 use mathlib.Core.Path.{refl}
 use Rattle.rules.specs.Editing.{erase, wordErase}
-use Rattle.echo.specs.Contract.{erasedEcho}
+use Rattle.showing.specs.Contract.{erasedEcho}
 use Rattle.edits.proofs.Laws.{nothing-edited, removed-shown}
 use borrow.Author.Needs.{needs}
 use Rattle.edits.proofs.erases.Statement.{statement}
 use Rattle.edits.proofs.erases.Tie as tie
 use Rattle.edits.proofs.erases.Reads as reads
 use Rattle.edits.proofs.erases.Lts as lts
-use Rattle.echo.proofs.of_erased.Reads as of-erased-reads
+use Rattle.showing.proofs.of_erased.Reads as of-erased-reads
 use Rattle.edits.proofs.line_empty.Reads as line-empty-reads
 use Rattle.edits.proofs.without.Reads as without-reads
 use Rattle.port.proofs.Port.with_output.Reads as with-output-reads

@@ -1,14 +1,14 @@
 -- `edits::kills` meets its contract. Assumes nothing.
 use mathlib.Core.Path.{refl}
 use Rattle.rules.specs.Editing.{kill}
-use Rattle.echo.specs.Contract.{killedEcho}
+use Rattle.showing.specs.Contract.{killedEcho}
 use Rattle.edits.proofs.Laws.{nothing-edited, removed-shown}
 use borrow.Author.Needs.{needs}
 use Rattle.edits.proofs.kills.Statement.{statement}
 use Rattle.edits.proofs.kills.Tie as tie
 use Rattle.edits.proofs.kills.Reads as reads
 use Rattle.edits.proofs.kills.Lts as lts
-use Rattle.echo.proofs.of_killed.Reads as of-killed-reads
+use Rattle.showing.proofs.of_killed.Reads as of-killed-reads
 use Rattle.edits.proofs.line_empty.Reads as line-empty-reads
 use Rattle.edits.proofs.without.Reads as without-reads
 use Rattle.port.proofs.Port.with_output.Reads as with-output-reads

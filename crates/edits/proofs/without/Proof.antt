@@ -1,14 +1,14 @@
 -- `edits::without` meets its contract. Assumes nothing.
 use mathlib.Core.Path.{ap, _∙_}
 use Rattle.input.specs.declared.Input.{Input}
-use Rattle.storing.specs.Contract.{assembled}
+use Rattle.flushing.specs.Contract.{assembled}
 use borrow.Author.Needs.{needs}
 use Rattle.edits.proofs.without.Statement.{statement}
 use Rattle.edits.proofs.without.Tie as tie
 use Rattle.edits.proofs.without.Reads as reads
 use Rattle.edits.proofs.without.Lts as lts
 use Rattle.input.proofs.Input.cut.Reads as cut-reads
-use Rattle.storing.proofs.assemble.Reads as assemble-reads
+use Rattle.flushing.proofs.assemble.Reads as assemble-reads
 
 cut-requires : tie.Need-cut-requires
 cut-requires c κs = search needs

@@ -7,7 +7,7 @@ use Rattle.goodbyte.proofs.tells.Statement.{statement}
 use Rattle.goodbyte.proofs.tells.Tie as tie
 use Rattle.goodbyte.proofs.tells.Reads as reads
 use Rattle.goodbyte.proofs.tells.Lts as lts
-use Rattle.verdicts.proofs.reported.Reads as reported-reads
+use Rattle.groups.proofs.reported.Reads as reported-reads
 
 enum-told : tie.Need-enum-told
 enum-told c = search needs

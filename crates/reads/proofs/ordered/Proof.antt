@@ -3,12 +3,6 @@ use Rattle.reads.proofs.Laws.{hung-read, clash-read, none-read, ruled-r
 use borrow.Author.Needs.{needs}
 use Rattle.reads.proofs.ordered.Statement.{statement}
 use Rattle.reads.proofs.ordered.Tie as tie
-use Rattle.reads.proofs.ordered.Reads as reads
-use Rattle.reads.proofs.ordered.Lts as lts
-use Rattle.port.proofs.says.Reads as says-reads
-use Rattle.reads.proofs.ruled.Reads as ruled-reads
-use Rattle.reads.proofs.with_read.Reads as with-read-reads
-use Rattle.waiting.proofs.clashes.Reads as clashes-reads
 
 with-read-requires : tie.Need-with-read-requires
 with-read-requires c κs = search needs

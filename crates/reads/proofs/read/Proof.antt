@@ -6,11 +6,6 @@ use Rattle.reads.proofs.Laws.{sound-places, read-of}
 use borrow.Author.Needs.{needs}
 use Rattle.reads.proofs.read.Statement.{statement}
 use Rattle.reads.proofs.read.Tie as tie
-use Rattle.reads.proofs.read.Reads as reads
-use Rattle.reads.proofs.read.Lts as lts
-use Rattle.input.proofs.Input.fit.Reads as fit-reads
-use Rattle.queue.proofs.least.Reads as least-reads
-use Rattle.reads.proofs.ordered.Reads as ordered-reads
 
 least-requires : tie.Need-least-requires
 least-requires c κs = search needs

@@ -6,7 +6,7 @@ use Rattle.received.proofs.reports.Statement.{statement}
 use Rattle.received.proofs.reports.Tie as tie
 use Rattle.received.proofs.reports.Reads as reads
 use Rattle.received.proofs.reports.Lts as lts
-use Rattle.verdicts.proofs.reported.Reads as reported-reads
+use Rattle.groups.proofs.reported.Reads as reported-reads
 
 reported-requires : tie.Need-reported-requires
 reported-requires c κs = search needs

@@ -6,7 +6,7 @@ use Rattle.signalling.proofs.flush_both.Tie as tie
 use Rattle.signalling.proofs.flush_both.Reads as reads
 use Rattle.signalling.proofs.flush_both.Lts as lts
 use Rattle.port.proofs.Port.flush_output.Reads as flush-output-reads
-use Rattle.storing.proofs.flush_input.Reads as flush-input-reads
+use Rattle.flushing.proofs.flush_input.Reads as flush-input-reads
 
 flush-input-requires : tie.Need-flush-input-requires
 flush-input-requires c κs = search needs

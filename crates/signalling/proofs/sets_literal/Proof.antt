@@ -1,14 +1,14 @@
 -- `signalling::sets_literal` meets its contract. Assumes nothing.
 use mathlib.Core.Path.{ap, _∙_}
 use Rattle.input.specs.declared.Input.{Input}
-use Rattle.storing.specs.Contract.{assembled}
+use Rattle.flushing.specs.Contract.{assembled}
 use borrow.Author.Needs.{needs}
 use Rattle.signalling.proofs.sets_literal.Statement.{statement}
 use Rattle.signalling.proofs.sets_literal.Tie as tie
 use Rattle.signalling.proofs.sets_literal.Reads as reads
 use Rattle.signalling.proofs.sets_literal.Lts as lts
 use Rattle.input.proofs.Input.with_literal.Reads as with-literal-reads
-use Rattle.storing.proofs.assemble.Reads as assemble-reads
+use Rattle.flushing.proofs.assemble.Reads as assemble-reads
 
 with-literal-requires : tie.Need-with-literal-requires
 with-literal-requires c κs = search needs

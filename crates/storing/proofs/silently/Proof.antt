@@ -8,11 +8,11 @@ use Rattle.storing.proofs.silently.Statement.{statement}
 use Rattle.storing.proofs.silently.Tie as tie
 use Rattle.storing.proofs.silently.Reads as reads
 use Rattle.storing.proofs.silently.Lts as lts
-use Rattle.input.proofs.Input.store.Reads as store-reads
-use Rattle.input.proofs.Input.unit_fits.Reads as unit-fits-reads
-use Rattle.input.proofs.size.Reads as size-reads
-use Rattle.storing.proofs.overflow.Reads as overflow-reads
-use Rattle.storing.proofs.stored.Reads as stored-reads
+use Rattle.units.proofs.store.Reads as store-reads
+use Rattle.units.proofs.unit_fits.Reads as unit-fits-reads
+use Rattle.units.proofs.size.Reads as size-reads
+use Rattle.flushing.proofs.overflow.Reads as overflow-reads
+use Rattle.flushing.proofs.stored.Reads as stored-reads
 
 size-requires : tie.Need-size-requires
 size-requires c κs = search needs

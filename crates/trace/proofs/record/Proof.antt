@@ -7,7 +7,7 @@ use Rattle.trace.proofs.record.Statement.{statement}
 use Rattle.trace.proofs.record.Tie as tie
 use Rattle.trace.proofs.record.Reads as reads
 use Rattle.trace.proofs.record.Lts as lts
-use Rattle.records.proofs.put_line.Reads as put-line-reads
+use Rattle.lines.proofs.put_line.Reads as put-line-reads
 use Rattle.trace.proofs.carry.Reads as carry-reads
 
 slice-aggregate-carry : tie.Need-slice-aggregate-carry

@@ -1,6 +1,6 @@
 -- `tracer::pass` meets its contract. Assumes nothing.
 use Rattle.tracer.proofs.Laws.{fed-on, fed-further}
-use Rattle.stream.proofs.Pieces.{Passing, passing-begins, passing-next, passing-done}
+use Rattle.feeding.proofs.Pieces.{Passing, passing-begins, passing-next, passing-done}
 use lib.Seq.{length-take-le}
 use lib.ListN.{length, drop, length-drop, length-take}
 use mathlib.Core.Bool.{false≢true}
@@ -12,7 +12,7 @@ use Rattle.tracer.proofs.pass.Tie as tie
 use Rattle.tracer.proofs.pass.Reads as reads
 use Rattle.tracer.proofs.pass.Lts as lts
 use Rattle.io.proofs.write_all.Reads as write-all-reads
-use Rattle.stream.proofs.feed.Reads as feed-reads
+use Rattle.feeding.proofs.feed.Reads as feed-reads
 
 abbrev Inv-loop : tie.InvT-loop
 Inv-loop bytes₀ marks₀ out₀ kept₀ piece line₀ s₀ at₀ bytes marks out kept line s at = Passing s₀ bytes₀ marks₀ out₀ kept₀ piece at s bytes marks out kept × (length line ≡ 4123) × (length bytes ≡ length bytes₀) × (length marks ≡ length marks₀) × (length out ≡ length out₀)

@@ -10,7 +10,7 @@ use Rattle.whole.proofs.whole.Tie as tie
 use Rattle.whole.proofs.whole.Reads as reads
 use Rattle.whole.proofs.whole.Lts as lts
 use Rattle.stream.proofs.Stream.start.Reads as start-reads
-use Rattle.stream.proofs.feed.Reads as feed-reads
+use Rattle.feeding.proofs.feed.Reads as feed-reads
 use Rattle.stream.proofs.finish.Reads as finish-reads
 
 abbrev Inv-loop : tie.InvT-loop

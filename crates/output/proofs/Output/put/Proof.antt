@@ -1,7 +1,8 @@
 -- `output::Output::put` meets its contract. Assumes nothing.
 use Rattle.output.proofs.Laws.{turns, range-none, get-length, len-now, same-size, twice}
-use Rattle.output.specs.declared.Expansion.{Expansion}
-use Rattle.output.specs.Contract.{get, put, bytesOf}
+use Rattle.expansion.specs.declared.Expansion.{Expansion}
+use Rattle.output.specs.Contract.{get, put}
+use Rattle.expansion.specs.Contract.{bytesOf}
 use Rattle.rules.specs.Output.{queued}
 use mathlib.Core.List.{[], _∷_}
 use lib.ListN.{length, length-replicate}

@@ -5,7 +5,7 @@ use Rattle.output.proofs.Output.put_byte.Statement.{statement}
 use Rattle.output.proofs.Output.put_byte.Tie as tie
 use Rattle.output.proofs.Output.put_byte.Reads as reads
 use Rattle.output.proofs.Output.put_byte.Lts as lts
-use Rattle.output.proofs.next_column.Reads as next-column-reads
+use Rattle.columns.proofs.next_column.Reads as next-column-reads
 use Rattle.queue.proofs.Queue.push.Reads as push-reads
 
 push-requires : tie.Need-push-requires

@@ -3,7 +3,7 @@ use Rattle.rules.specs.Sizes.{Output as Ruled}
 use borrow.Author.Needs.{needs}
 use Rattle.output.specs.declared.Output.{Output}
 use native.Mathlib.Nat.{le-antisymm}
-use Rattle.output.proofs.Expansions.{replicate-snoc}
+use Rattle.columns.proofs.Columns.{replicate-snoc}
 use Rattle.output.proofs.Laws.{range-len, range-get, start-run, same-size, len-now, twice, via-range}
 use Rattle.output.specs.Contract.{get, Becomes}
 use Rattle.rules.specs.Output.{queued}

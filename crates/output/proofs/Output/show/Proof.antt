@@ -12,7 +12,7 @@ use Rattle.output.proofs.Output.show.Statement.{statement}
 use Rattle.output.proofs.Output.show.Tie as tie
 use Rattle.output.proofs.Output.show.Reads as reads
 use Rattle.output.proofs.Output.show.Lts as lts
-use Rattle.output.proofs.Measure.and.Reads as and-reads
+use Rattle.columns.proofs.Measure.and.Reads as and-reads
 use Rattle.output.proofs.Output.fit.Reads as fit-reads
 use Rattle.output.proofs.Output.measure.Reads as measure-reads
 use Rattle.output.proofs.Output.write.Reads as write-reads

@@ -4,7 +4,8 @@ use Rattle.output.proofs.Run.{SoFar, start, next, full, done, wrote}
 use Rattle.output.proofs.Laws.{same-size}
 use Rattle.rules.specs.Output.{written}
 use lib.ListN.{length, take}
-use Rattle.output.specs.Contract.{get, put, bytesOf}
+use Rattle.output.specs.Contract.{get, put}
+use Rattle.expansion.specs.Contract.{bytesOf}
 use native.Mathlib.Omega.{arith}
 use Prim.Native.Nat.{_-_}
 use mathlib.Core.Path.{_≡_}
@@ -14,8 +15,8 @@ use Rattle.output.proofs.Output.write.Reads as reads
 use Rattle.output.proofs.Output.write.Lts as lts
 use Rattle.output.proofs.Output.fit.Reads as fit-reads
 use Rattle.output.proofs.Output.put.Reads as put-reads
-use Rattle.output.proofs.expand.Reads as expand-reads
-use Rattle.output.proofs.width.Reads as width-reads
+use Rattle.expansion.proofs.expand.Reads as expand-reads
+use Rattle.expansion.proofs.width.Reads as width-reads
 
 abbrev Inv-loop : tie.InvT-loop
 Inv-loop x out₀ src n o₀ i₀ out o i = SoFar x o₀ out₀ src i o out

@@ -1,0 +1,40 @@
+-- `beginning::begins` meets its contract. Assumes nothing.
+use mathlib.Core.Path.{ap, _∙_}
+use mathlib.Core.Bool.{Bool, false}
+use Rattle.input.specs.declared.Input.{Input}
+use Rattle.output.specs.declared.Output.{Output}
+use Rattle.flushing.specs.Contract.{assembled}
+use Rattle.signalling.specs.Contract.{literalTo, stopTo}
+use borrow.Author.Needs.{needs}
+use Rattle.beginning.proofs.begins.Statement.{statement}
+use Rattle.beginning.proofs.begins.Tie as tie
+use Rattle.beginning.proofs.begins.Reads as reads
+use Rattle.beginning.proofs.begins.Lts as lts
+use Rattle.input.proofs.Input.with_literal.Reads as with-literal-reads
+use Rattle.output.proofs.Output.stop.Reads as stop-reads
+use Rattle.beginning.proofs.resumes.Reads as resumes-reads
+use Rattle.flushing.proofs.assemble.Reads as assemble-reads
+
+with-literal-requires : tie.Need-with-literal-requires
+with-literal-requires c κs = search needs
+
+resumes-requires : tie.Need-resumes-requires
+resumes-requires c κs = search needs
+
+stop-requires : tie.Need-stop-requires
+stop-requires c κs = search needs
+
+assemble-requires : tie.Need-assemble-requires
+assemble-requires c κs = search needs
+
+returns : tie.Need-returns
+returns c =
+    let p = (c .before .before .before .before .before .before .before .args .p) in
+    (c .assemble .ensures)
+    ∙ ap (λ (y : Input). assembled p y (c .before .stop .result) (p .waiting)) (c .before .before .before .with-literal .ensures)
+    ∙ ap (λ (y : Output). assembled p (literalTo false (p .input)) y (p .waiting)) ((c .before .stop .ensures) ∙ ap (λ (y : Bool). stopTo y (p .output)) (c .before .before .resumes .ensures))
+
+pub begins-spec : {M : Type 1} → statement M
+begins-spec =
+    tie.close
+    (tie.spec with-literal-requires resumes-requires stop-requires assemble-requires returns)

@@ -1,0 +1,84 @@
+-- `ending::ends` meets its contract. Assumes nothing.
+use Rattle.storing.proofs.Laws.{end-room, ended-line, dropped-end}
+use Rattle.rules.specs.Sizes.{delimiter}
+use Rattle.rules.specs.Echo as echo
+use borrow.Author.Needs.{needs}
+use Rattle.ending.proofs.ends.Statement.{statement}
+use Rattle.ending.proofs.ends.Tie as tie
+use Rattle.ending.proofs.ends.Reads as reads
+use Rattle.ending.proofs.ends.Lts as lts
+use Rattle.showing.proofs.of_stored.Reads as of-stored-reads
+use Rattle.places.proofs.end.Reads as end-reads
+use Rattle.places.proofs.end_fits.Reads as end-fits-reads
+use Rattle.flushing.proofs.overflow.Reads as overflow-reads
+use Rattle.flushing.proofs.stored.Reads as stored-reads
+
+end-fits-requires : tie.Need-end-fits-requires
+end-fits-requires c κs = search needs
+
+end-requires : tie.Need-end-requires
+end-requires c κs =
+    let start = c .before .before .before .before .before .before .before .before .before in
+    let p = start .args .p in
+    let bs = start .args .bytes .now in
+    let ms = start .args .marks .now in
+    let os = start .args .out .now in
+    end-room p bs ms os (start .pre) (c .before .before .before .end-fits .result) (c .before .before .before .end-fits .ensures) (c .before .before .if1 .taken)
+
+of-stored-requires : tie.Need-of-stored-requires
+of-stored-requires c κs = search needs
+
+stored-requires : tie.Need-stored-requires
+stored-requires c κs = search needs
+
+same-length : tie.Need-same-length
+same-length c = search needs
+
+same-length-2 : tie.Need-same-length-2
+same-length-2 c = search needs
+
+same-length-3 : tie.Need-same-length-3
+same-length-3 c = search needs
+
+returns : tie.Need-returns
+returns c =
+    let start = c .before .before .before .before .before .before .before .before .before .before .before .before .before .before .before .before .before .before .before .before in
+    let p = start .args .p in
+    let bs = start .args .bytes .now in
+    let ms = start .args .marks .now in
+    let os = start .args .out .now in
+    let b = start .args .b in
+    ended-line p bs ms os (start .pre) (delimiter b) (echo.storedEcho (p .settings) b) (c .before .before .before .before .before .before .before .before .before .before .before .before .before .before .end-fits .result) (c .before .before .before .before .before .before .before .before .before .before .end .result) (c .before .before .before .of-stored .result) (c .stored .result) (c .before .before .before .before .before .before .before .before .before .before .end .last .1 .0) (c .before .before .before .before .before .before .before .before .before .before .end .last .1 .1 .0) (c .before .before .before .of-stored .last .1 .1 .0) (c .before .before .before .before .before .before .before .before .before .before .before .before .before .before .end-fits .ensures) (c .before .before .before .before .before .before .before .before .before .before .before .before .before .if1 .taken) (c .before .before .before .before .before .before .before .before .before .before .end .ensures)
+    (c .before .before .before .of-stored .ensures) (c .stored .ensures)
+
+overflow-requires : tie.Need-overflow-requires
+overflow-requires c κs = search needs
+
+same-length-4 : tie.Need-same-length-4
+same-length-4 c = search needs
+
+returns-2 : tie.Need-returns-2
+returns-2 c =
+    let start = c .before .before .before .before .before .before .before .before .before .before .before in
+    let p = start .args .p in
+    let bs = start .args .bytes .now in
+    let ms = start .args .marks .now in
+    let os = start .args .out .now in
+    let b = start .args .b in
+    dropped-end p bs ms os (start .pre) (delimiter b) (echo.storedEcho (p .settings) b) (c .before .before .before .before .before .end-fits .result) (c .before .before .overflow .result) (c .before .before .overflow .last .1 .1 .0) (c .before .before .before .before .before .end-fits .ensures) (c .before .before .before .before .if1 .left) (c .before .before .overflow .ensures)
+
+pub ends-spec : {M : Type 1} → statement M
+ends-spec =
+    tie.close
+    (tie.spec
+    end-fits-requires
+    end-requires
+    of-stored-requires
+    stored-requires
+    same-length
+    same-length-2
+    same-length-3
+    returns
+    overflow-requires
+    same-length-4
+    returns-2)

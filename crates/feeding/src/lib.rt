@@ -1,0 +1,96 @@
+// Document 01, 'The trace program', on an input that comes in pieces: a line as soon as its record is complete.
+ghost use mathlib.Core.Path.{_≡_};
+ghost use lib.ListN.{length};
+ghost use Rattle.feeding.specs.Contract.{Feeds};
+use stream::Stream;
+
+// The stream after a piece, how many bytes of the piece it used, and the length of the line printed for them.
+pub struct Fed {
+    pub stream: Stream,
+    pub used: usize,
+    pub length: usize,
+}
+
+fn advance(
+    g: Stream,
+    bytes: &mut [u8],
+    marks: &mut [u8],
+    out: &mut [u8],
+    kept: &mut [u8],
+    piece: &[u8],
+    line: &mut [u8],
+) -> Fed
+    requires { ⌜ length (now kept) ≡ 517 ⌝ }
+    ensures { λ r. ⌜ Feeds g (now (bytes .entry)) (now (marks .entry)) (now (out .entry)) (now (kept .entry)) (now (piece .entry)) (now (line .entry)) r (now (bytes .exit)) (now (marks .exit)) (now (out .exit)) (now (kept .exit)) (now (line .exit)) ⌝ }
+{
+    if g.done {
+        return Fed {
+            stream: g,
+            used: piece.len(),
+            length: 0,
+        };
+    }
+    if piece.len() == 0 {
+        return Fed {
+            stream: g,
+            used: 0,
+            length: 0,
+        };
+    }
+    let port = g.port;
+    if g.index >= 65535 { // 'At most 65,535 records are read'
+        let k = lines::put_full(line, g.index);
+        return Fed {
+            stream: Stream {
+                port: port,
+                index: g.index,
+                have: 0,
+                done: true,
+            },
+            used: piece.len(),
+            length: k,
+        };
+    }
+    let have = gathering::begun(kept, g.have);
+    let used = gathering::gather(kept, have, piece);
+    let now = have + used;
+    if gathering::is_open(kept, now) {
+        return Fed {
+            stream: Stream {
+                port: port,
+                index: g.index,
+                have: now,
+                done: false,
+            },
+            used: used,
+            length: 0,
+        };
+    }
+    let r = completing::complete(port, bytes, marks, out, g.index, kept, line);
+    let after = r.port;
+    Fed {
+        stream: Stream {
+            port: after,
+            index: g.index + 1,
+            have: 0,
+            done: false,
+        },
+        used: used,
+        length: r.length,
+    }
+}
+
+// the next bytes of the input, up to the end of a record
+pub fn feed(
+    g: Stream,
+    bytes: &mut [u8],
+    marks: &mut [u8],
+    out: &mut [u8],
+    kept: &mut [u8; Stream::KEPT],
+    piece: &[u8],
+    line: &mut [u8],
+) -> Fed
+    ensures { λ r. ⌜ Feeds g (now (bytes .entry)) (now (marks .entry)) (now (out .entry)) (now (kept .entry)) (now (piece .entry)) (now (line .entry)) r (now (bytes .exit)) (now (marks .exit)) (now (out .exit)) (now (kept .exit)) (now (line .exit)) ⌝ }
+{
+    advance(g, bytes, marks, out, kept, piece, line)
+}

@@ -1,0 +1,43 @@
+-- `flushing::flush_input` meets its contract. Assumes nothing.
+use Rattle.flushing.proofs.Laws.{flushed-of}
+use mathlib.Core.Bool.{Bool}
+use Rattle.rules.specs.Flushing as flushing
+use mathlib.Core.Path.{ap, _∙_}
+use borrow.Author.Needs.{needs}
+use Rattle.flushing.proofs.flush_input.Statement.{statement}
+use Rattle.flushing.proofs.flush_input.Tie as tie
+use Rattle.flushing.proofs.flush_input.Reads as reads
+use Rattle.flushing.proofs.flush_input.Lts as lts
+use Rattle.input.proofs.Input.flush.Reads as flush-reads
+use Rattle.flushing.proofs.assemble.Reads as assemble-reads
+use Rattle.timing.proofs.between_bytes.Reads as between-bytes-reads
+use Rattle.timing.proofs.timer_flushed.Reads as timer-flushed-reads
+
+flush-requires : tie.Need-flush-requires
+flush-requires c κs = search needs
+
+between-bytes-requires : tie.Need-between-bytes-requires
+between-bytes-requires c κs = search needs
+
+timer-flushed-requires : tie.Need-timer-flushed-requires
+timer-flushed-requires c κs = search needs
+
+assemble-requires : tie.Need-assemble-requires
+assemble-requires c κs = search needs
+
+returns : tie.Need-returns
+returns c =
+    let start = c .before .before .before .before .before .before .before .before in
+    let p = start .args .p in
+    flushed-of p (start .args .n) (start .args .out .now) (start .pre) (c .before .before .before .before .flush .result) (c .before .timer-flushed .result) (c .assemble .result) (c .before .before .before .before .flush .ensures)
+    (c .before .timer-flushed .ensures ∙ ap (λ (y : Bool). flushing.timerFlushed y (p .waiting)) (c .before .before .between-bytes .ensures)) (c .assemble .ensures)
+
+pub flush-input-spec : {M : Type 1} → statement M
+flush-input-spec =
+    tie.close
+    (tie.spec
+    flush-requires
+    between-bytes-requires
+    timer-flushed-requires
+    assemble-requires
+    returns)

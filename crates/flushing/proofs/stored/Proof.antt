@@ -1,0 +1,33 @@
+-- `flushing::stored` meets its contract. Assumes nothing.
+use Rattle.flushing.specs.Contract.{assembled}
+use Rattle.rules.specs.Fit as fit
+use Rattle.rules.specs.declared.Waiting.{Waiting}
+use mathlib.Core.Bool.{Bool}
+use mathlib.Core.Path.{ap, _∙_}
+use borrow.Author.Needs.{needs}
+use Rattle.flushing.proofs.stored.Statement.{statement}
+use Rattle.flushing.proofs.stored.Tie as tie
+use Rattle.flushing.proofs.stored.Reads as reads
+use Rattle.flushing.proofs.stored.Lts as lts
+use Rattle.flushing.proofs.assemble.Reads as assemble-reads
+use Rattle.timing.proofs.between_bytes.Reads as between-bytes-reads
+use Rattle.timing.proofs.timer_stored.Reads as timer-stored-reads
+
+between-bytes-requires : tie.Need-between-bytes-requires
+between-bytes-requires c κs = search needs
+
+timer-stored-requires : tie.Need-timer-stored-requires
+timer-stored-requires c κs = search needs
+
+assemble-requires : tie.Need-assemble-requires
+assemble-requires c κs = search needs
+
+returns : tie.Need-returns
+returns c =
+    let p = c .before .before .before .before .args .p in
+    let timed = c .before .timer-stored .ensures ∙ ap (λ (y : Bool). fit.timerStored y (p .settings) (p .waiting)) (c .before .before .between-bytes .ensures) in
+    c .assemble .ensures ∙ ap (λ (y : Waiting). assembled p (c .before .before .before .before .args .input) (c .before .before .before .before .args .output) y) timed
+
+pub stored-spec : {M : Type 1} → statement M
+stored-spec =
+    tie.close (tie.spec between-bytes-requires timer-stored-requires assemble-requires returns)

@@ -1,0 +1,3 @@
+pub mod Rules
+pub mod Keeping
+pub mod Laws

@@ -1,0 +1,20 @@
+-- `gathering::begun` meets its contract. Assumes nothing.
+use Rattle.gathering.proofs.Laws.{begun-open, begun-none}
+use borrow.Author.Needs.{needs}
+use Rattle.gathering.proofs.begun.Statement.{statement}
+use Rattle.gathering.proofs.begun.Tie as tie
+use Rattle.gathering.proofs.begun.Reads as reads
+use Rattle.gathering.proofs.begun.Lts as lts
+use Rattle.gathering.proofs.is_open.Reads as is-open-reads
+
+is-open-requires : tie.Need-is-open-requires
+is-open-requires c κs = search needs
+
+returns : tie.Need-returns
+returns c = begun-open (c .before .before .before .args .kept .now) (c .before .before .before .args .have) (c .before .is-open .result) (c .before .is-open .ensures) (c .if1 .taken)
+
+returns-2 : tie.Need-returns-2
+returns-2 c = begun-none (c .before .before .before .args .kept .now) (c .before .before .before .args .have) (c .before .is-open .result) (c .before .is-open .ensures) (c .if1 .left)
+
+pub begun-spec : {M : Type 1} → statement M
+begun-spec = tie.close (tie.spec is-open-requires returns returns-2)

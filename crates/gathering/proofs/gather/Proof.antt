@@ -1,0 +1,77 @@
+-- `gathering::gather` meets its contract. Assumes nothing.
+use mathlib.Core.Path.{refl, sym, _∙_}
+use Rattle.gathering.proofs.Laws.{Gathering, gathering-begins, gathering-next, gathered-all, gathered-some}
+use lib.ListN.{length}
+use Prim.Native.Nat.{_-_}
+use native.Mathlib.Omega.{arith}
+use Rattle.gathering.proofs.gather.Statement.{statement}
+use Rattle.gathering.proofs.gather.Tie as tie
+use Rattle.gathering.proofs.gather.Reads as reads
+use Rattle.gathering.proofs.gather.Lts as lts
+use Rattle.gathering.proofs.is_open.Reads as is-open-reads
+use Rattle.gathering.proofs.keep.Reads as keep-reads
+
+abbrev Inv-loop : tie.InvT-loop
+Inv-loop kept₀ have piece at₀ kept at = Gathering kept₀ have piece at kept
+
+abbrev μ-loop : tie.MeasureT-loop
+μ-loop kept₀ have piece at₀ kept at = length piece - at
+
+loop-holds : tie.Need-loop-holds Inv-loop μ-loop
+loop-holds c = gathering-begins (c .before .before .args .kept .now) (c .before .before .args .have) (c .before .before .args .piece .now) ((c .before .before .pre) .0) ((c .before .before .pre) .1 .0) ((c .before .before .pre) .1 .1)
+
+add-is-open : tie.Need-add-is-open Inv-loop μ-loop
+add-is-open c = omega (arith, (c .before .before .loop .inv .low))
+
+is-open-requires : tie.Need-is-open-requires Inv-loop μ-loop
+is-open-requires c κs = omega (arith, (c .before .before .loop .inv .long))
+
+add-keep : tie.Need-add-keep Inv-loop μ-loop
+add-keep c = omega (arith, (c .before .before .before .before .before .loop .inv .low))
+
+shared-slice-read-keep : tie.Need-shared-slice-read-keep Inv-loop μ-loop
+shared-slice-read-keep c = (c .before .before .before .before .before .loop-test .taken)
+
+keep-requires : tie.Need-keep-requires Inv-loop μ-loop
+keep-requires c κs = tt
+
+add-at : tie.Need-add-at Inv-loop μ-loop
+add-at c = omega (arith, (c .before .before .before .before .before .before .before .before .loop-test .taken), (c .before .before .before .before .before .before .before .before .before .loop .inv .low))
+
+loop-less : tie.Need-loop-less Inv-loop μ-loop
+loop-less c = omega (arith, (c .before .before .before .before .before .before .before .before .loop-test .taken))
+
+loop-again : tie.Need-loop-again Inv-loop μ-loop
+loop-again c = gathering-next (c .before .before .before .before .before .before .before .before .before .before .before .before .args .kept .now) (c .before .before .before .before .before .before .before .before .before .before .before .before .args .have) (c .before .before .before .before .before .before .before .before .before .before .before .before .args .piece .now) (c .before .before .before .before .before .before .before .before .before .loop .at) (c .before .before .before .before .before .before .before .before .before .loop .kept) (c .before .before .before .before .before .before .before .before .before .loop .inv) _ (c .before .before .before .before .before .before .is-open .result) (c .before .before .keep .last .0) (c .before .before .before .before .before .before .before .before .loop-test .taken) refl (c .before .before .before .before .before .before .is-open .ensures) (c .before .before .before .before .before .if1 .taken) (c .before .before .keep .ensures)
+
+same-length : tie.Need-same-length Inv-loop μ-loop
+same-length c = (c .before .before .before .before .loop .inv .long) ∙ sym ((c .before .before .before .before .before .before .before .pre) .0)
+
+returns : tie.Need-returns Inv-loop μ-loop
+returns c = gathered-all (c .before .before .before .before .before .before .before .args .kept .now) (c .before .before .before .before .before .before .before .args .have) (c .before .before .before .before .before .before .before .args .piece .now) (c .before .before .before .before .loop .at) (c .before .before .before .before .loop .kept) (c .before .before .before .before .loop .inv) (c .before .is-open .result) ((c .before .before .before .before .before .before .before .pre) .1 .0) (c .before .is-open .ensures) (c .if1 .left)
+
+same-length-2 : tie.Need-same-length-2 Inv-loop μ-loop
+same-length-2 c = (c .before .loop .inv .long) ∙ sym ((c .before .before .before .before .pre) .0)
+
+returns-2 : tie.Need-returns-2 Inv-loop μ-loop
+returns-2 c = gathered-some (c .before .before .before .before .args .kept .now) (c .before .before .before .before .args .have) (c .before .before .before .before .args .piece .now) (c .before .loop .at) (c .before .loop .kept) (c .before .loop .inv) (c .loop-test .left)
+
+pub gather-spec : {M : Type 1} → statement M
+gather-spec =
+    tie.close
+    (tie.spec
+    Inv-loop
+    μ-loop
+    loop-holds
+    add-is-open
+    is-open-requires
+    add-keep
+    shared-slice-read-keep
+    keep-requires
+    add-at
+    loop-less
+    loop-again
+    same-length
+    returns
+    same-length-2
+    returns-2)

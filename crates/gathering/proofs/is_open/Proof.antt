@@ -1,0 +1,28 @@
+-- `gathering::is_open` meets its contract. Assumes nothing.
+use Rattle.gathering.proofs.Laws.{open-as}
+use borrow.Author.Needs.{needs}
+use Rattle.gathering.proofs.is_open.Statement.{statement}
+use Rattle.gathering.proofs.is_open.Tie as tie
+use Rattle.gathering.proofs.is_open.Reads as reads
+use Rattle.gathering.proofs.is_open.Lts as lts
+use Rattle.records.proofs.two.Reads as two-reads
+
+shared-slice-read-two : tie.Need-shared-slice-read-two
+shared-slice-read-two c = search needs
+
+shared-slice-read-two-2 : tie.Need-shared-slice-read-two-2
+shared-slice-read-two-2 c = search needs
+
+two-requires : tie.Need-two-requires
+two-requires c κs = search needs
+
+add-size : tie.Need-add-size
+add-size c = search needs
+
+returns : tie.Need-returns
+returns c = open-as (c .before .before .before .before .args .kept .now) (c .before .before .before .before .args .have) (c .two .result) ((c .two .ensures) .0) ((c .two .ensures) .1)
+
+pub is-open-spec : {M : Type 1} → statement M
+is-open-spec =
+    tie.close
+    (tie.spec shared-slice-read-two shared-slice-read-two-2 two-requires add-size returns)

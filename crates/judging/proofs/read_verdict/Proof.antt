@@ -1,0 +1,23 @@
+-- `judging::read_verdict` meets its contract. Assumes nothing.
+use Rattle.judging.proofs.Laws.{verdict-of}
+use Rattle.port.specs.State.{get}
+use borrow.Author.Needs.{needs}
+use Rattle.judging.proofs.read_verdict.Statement.{statement}
+use Rattle.judging.proofs.read_verdict.Tie as tie
+use Rattle.judging.proofs.read_verdict.Reads as reads
+use Rattle.judging.proofs.read_verdict.Lts as lts
+use Rattle.judging.proofs.judged.Reads as judged-reads
+use Rattle.verdicts.proofs.read_verdict.Reads as read-verdict-reads
+
+read-verdict-requires : tie.Need-read-verdict-requires
+read-verdict-requires c κs = search needs
+
+judged-requires : tie.Need-judged-requires
+judged-requires c κs = search needs
+
+returns : tie.Need-returns
+unfolding get
+returns c = verdict-of ((c .before .before .args .p)) ((c .before .before .args .who)) (c .before .read-verdict .result) (c .before .read-verdict .ensures) (c .judged .result) (c .judged .ensures)
+
+pub read-verdict-spec : {M : Type 1} → statement M
+read-verdict-spec = tie.close (tie.spec read-verdict-requires judged-requires returns)

@@ -1,0 +1,23 @@
+-- `judging::write_verdict` meets its contract. Assumes nothing.
+use Rattle.judging.proofs.Laws.{verdict-of}
+use Rattle.port.specs.State.{get}
+use borrow.Author.Needs.{needs}
+use Rattle.judging.proofs.write_verdict.Statement.{statement}
+use Rattle.judging.proofs.write_verdict.Tie as tie
+use Rattle.judging.proofs.write_verdict.Reads as reads
+use Rattle.judging.proofs.write_verdict.Lts as lts
+use Rattle.judging.proofs.judged.Reads as judged-reads
+use Rattle.verdicts.proofs.write_verdict.Reads as write-verdict-reads
+
+write-verdict-requires : tie.Need-write-verdict-requires
+write-verdict-requires c κs = search needs
+
+judged-requires : tie.Need-judged-requires
+judged-requires c κs = search needs
+
+returns : tie.Need-returns
+unfolding get
+returns c = verdict-of ((c .before .before .before .args .p)) ((c .before .before .before .args .who)) (c .before .write-verdict .result) (c .before .write-verdict .ensures) (c .judged .result) (c .judged .ensures)
+
+pub write-verdict-spec : {M : Type 1} → statement M
+write-verdict-spec = tie.close (tie.spec write-verdict-requires judged-requires returns)

@@ -1,0 +1,29 @@
+-- `received::interrupts` meets its contract. Assumes nothing.
+use Rattle.rules.specs.declared.Signal.the-variants.{Int}
+use Rattle.rules.specs.Flushing.{flushBoth}
+use Rattle.rules.specs.Received.{reported}
+use Rattle.flushing.specs.Contract.{state}
+use Rattle.received.proofs.Laws.{reports-of}
+use borrow.Author.Needs.{needs}
+use Rattle.received.proofs.interrupts.Statement.{statement}
+use Rattle.received.proofs.interrupts.Tie as tie
+use Rattle.received.proofs.interrupts.Reads as reads
+use Rattle.received.proofs.interrupts.Lts as lts
+use Rattle.received.proofs.reports.Reads as reports-reads
+use Rattle.signalling.proofs.flush_both.Reads as flush-both-reads
+
+flush-both-requires : tie.Need-flush-both-requires
+flush-both-requires c κs = search needs
+
+reports-requires : tie.Need-reports-requires
+reports-requires c κs = search needs
+
+returns : tie.Need-returns
+returns c =
+    λ bs ms eb em.
+    let p = (c .before .before .before .args .p) in
+    let os = (c .before .before .before .args .out .now) in
+    reports-of p (c .before .flush-both .result) bs ms os bs ms os (flushBoth (state p bs ms os)) (reported Int (p .foreground)) (c .reports .result) (c .reports .ensures) ((c .before .flush-both .ensures) bs ms eb em)
+
+pub interrupts-spec : {M : Type 1} → statement M
+interrupts-spec = tie.close (tie.spec flush-both-requires reports-requires returns)

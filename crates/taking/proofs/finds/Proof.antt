@@ -1,0 +1,26 @@
+-- `taking::finds` meets its contract. Assumes nothing.
+use mathlib.Core.Path.{sym, ap, _∙_}
+use mathlib.Core.Bool.{Bool, true, false, _||_}
+use Rattle.rules.specs.Reads.{enough, expired}
+use Rattle.taking.proofs.Laws.{finds-line, finds-bytes}
+use borrow.Author.Needs.{needs}
+use Rattle.taking.proofs.finds.Statement.{statement}
+use Rattle.taking.proofs.finds.Tie as tie
+
+returns : tie.Need-returns
+returns c = finds-line ((c .before .args .x)) ((c .before .args .finished)) ((c .before .args .w)) ((c .before .args .n)) (c .if1 .taken)
+
+enough-requires : tie.Need-enough-requires
+enough-requires c κs = search needs
+
+returns-2 : tie.Need-returns-2
+returns-2 c = finds-bytes ((c .before .before .before .args .x)) ((c .before .before .before .args .finished)) ((c .before .before .before .args .w)) ((c .before .before .before .args .n)) true (expired ((c .before .before .before .args .w))) (c .before .before .if1 .left) (ap (λ (y : Bool). y || expired ((c .before .before .before .args .w))) (sym (c .if2 .taken) ∙ (c .before .enough .ensures)))
+
+expired-requires : tie.Need-expired-requires
+expired-requires c κs = search needs
+
+returns-3 : tie.Need-returns-3
+returns-3 c = finds-bytes ((c .before .before .before .before .args .x)) ((c .before .before .before .before .args .finished)) ((c .before .before .before .before .args .w)) ((c .before .before .before .before .args .n)) false (c .expired .result) (c .before .before .before .if1 .left) (ap (λ (y : Bool). y || (c .expired .result)) (sym (c .before .if2 .left) ∙ (c .before .before .enough .ensures)) ∙ ap (λ (y : Bool). enough ((c .before .before .before .before .args .x)) ((c .before .before .before .before .args .n)) ((c .before .before .before .before .args .finished)) || y) (c .expired .ensures))
+
+pub finds-spec : {M : Type 1} → statement M
+finds-spec = tie.close (tie.spec returns enough-requires returns-2 expired-requires returns-3)

@@ -1,0 +1,11 @@
+-- What the writers of texts promise.
+use Prim.Native.Nat.{ℕ, _+_, min, max}
+use mathlib.Core.Path.{_≡_}
+use mathlib.Core.List.{List}
+use lib.ListN.{length}
+use lib.Seq.{sets}
+
+-- the text t from place i on, as much of it as the buffer holds; r is the place after it
+pub record Puts (l : List ℕ) (i : ℕ) (t : List ℕ) (r : ℕ) (l′ : List ℕ) : Type 0 where
+  pub place : r ≡ max i (min (i + length t) (length l))
+  pub buffer : l′ ≡ sets l i t

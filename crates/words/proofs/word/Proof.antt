@@ -1,0 +1,22 @@
+-- `words::word` meets its contract. Assumes nothing.
+use Rattle.words.proofs.Laws.{word-of}
+use borrow.Author.Needs.{needs}
+use Rattle.words.proofs.word.Statement.{statement}
+use Rattle.words.proofs.word.Tie as tie
+
+trailing-requires : tie.Need-trailing-requires
+trailing-requires c κs = search needs
+
+trailing-requires-2 : tie.Need-trailing-requires-2
+trailing-requires-2 c κs = search needs
+
+add-t8 : tie.Need-add-t8
+add-t8 c = search needs
+
+returns : tie.Need-returns
+returns c =
+    let s = c .before .before .before .before .before .before .before in
+    word-of (s .args .i) (s .args .bytes .now) (s .args .marks .now) (s .args .i .queue .len) (c .before .before .before .trailing .result) (c .before .before .before .trailing .ensures) (c .before .before .trailing2 .result) (c .before .before .trailing2 .ensures)
+
+pub word-spec : {M : Type 1} → statement M
+word-spec = tie.close (tie.spec trailing-requires trailing-requires-2 add-t8 returns)
