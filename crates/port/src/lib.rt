@@ -1,8 +1,6 @@
-// A port of document 01: its state, and the calls on its output. A port is scalars by value; its three queues are lent as
+// A port of document 01: its state, flushing its output, an answer. A port is scalars by value; its three queues are lent as
 // slices of any length (input bytes, input marks, output), made by whoever owns the port.
 ghost use mathlib.Core.Path.{_≡_};
-ghost use mathlib.Core.Bool.{_&&_};
-ghost use lib.Dec.{ltb, eqb};
 ghost use Rattle.port.specs.State.{withOutput};
 ghost use Rattle.port.specs.Contract as promise;
 use input::Input;
@@ -10,7 +8,6 @@ use output::Output;
 use rules::Answer;
 use rules::Group;
 use rules::Outcome;
-use rules::Refusal;
 use rules::Settings;
 use rules::Waiting;
 
@@ -73,36 +70,6 @@ impl Port {
         }
     }
 
-    // 'A write takes bytes until one's whole expansion does not fit, then stops there; its count is the bytes taken.'
-    pub fn write(self, out: &mut [u8], src: &[u8]) -> Answered
-        ensures { λ r. ⌜ promise.result r (now (out .exit)) (now (src .entry)) ≡ promise.written self (now (out .entry)) (now (src .entry)) ⌝ }
-    {
-        if self.hung {
-            return refuses(self, Refusal::HungUp);
-        }
-        let x = self.settings;
-        let o = self.output;
-        let w = o.write(x, out, src);
-        let count = w.count;
-        if nothing_taken(src.len(), count) {
-            return refuses(self, Refusal::Nothing);
-        }
-        let output = w.output;
-        let p = self.with_output(output);
-        says(p, Outcome::Ok, count)
-    }
-
-    // 'Transmit hands out the oldest queued bytes, none while stopped.'
-    pub fn transmit(self, out: &[u8], dst: &mut [u8]) -> Answered
-        ensures { λ r. ⌜ promise.result r (now (out .entry)) (now (dst .exit)) ≡ promise.transmitted self (now (out .entry)) (now (dst .entry)) ⌝ }
-    {
-        let o = self.output;
-        let s = o.transmit(out, dst);
-        let output = s.output;
-        let p = self.with_output(output);
-        says(p, Outcome::Ok, s.count)
-    }
-
     // 'Flushing output empties its queue; column and "stopped" stay.' The slice of the output has n bytes.
     pub fn flush_output(self, n: usize) -> Port
         ensures { λ r. ⌜ r ≡ promise.flushed self n ⌝ }
@@ -111,16 +78,6 @@ impl Port {
         let output = o.flush(n);
         self.with_output(output)
     }
-}
-
-// 'a write of one byte or more of which none could be taken'
-fn nothing_taken(len: usize, count: usize) -> bool
-    ensures { λ r. ⌜ r ≡ (ltb 0 len && eqb count 0) ⌝ }
-{
-    if len > 0 {
-        return count == 0;
-    }
-    false
 }
 
 // the port and the answer
@@ -132,19 +89,6 @@ pub fn says(p: Port, outcome: Outcome, count: usize) -> Answered
         answer: Answer {
             outcome: outcome,
             count: count,
-        },
-    }
-}
-
-// 'A refusal returns its number and count 0; port and buffers keep every byte.'
-fn refuses(p: Port, r: Refusal) -> Answered
-    ensures { λ a. ⌜ a ≡ record { port = p; answer = record { outcome = Outcome.Refused r; count = 0 } } ⌝ }
-{
-    Answered {
-        port: p,
-        answer: Answer {
-            outcome: Outcome::Refused(r),
-            count: 0,
         },
     }
 }

@@ -22,13 +22,13 @@ fn taken(a: Answered) -> usize
 pub fn write_through(p: Port, out: &mut [u8], src: &[u8], dst: &mut [u8]) -> Moved
     ensures { λ r. ⌜ MovesThrough p (now (out .entry)) (now (src .entry)) (now (dst .entry)) r (now (out .exit)) (now (dst .exit)) ⌝ }
 {
-    let a = p.write(out, src);
+    let a = writing::write(p, out, src);
     let q = a.port;
     let n = taken(a);
-    let b = q.transmit(out, dst);
+    let b = writing::transmit(q, out, dst);
     let t = b.port;
     let given = taken(b);
-    let c = t.write(out, &src[n..]);
+    let c = writing::write(t, out, &src[n..]);
     let port = c.port;
     let more = taken(c);
     Moved {

@@ -14,8 +14,8 @@ use Rattle.judging.proofs.settings_verdict.Reads as settings-verdict-reads
 use Rattle.judging.proofs.write_verdict.Reads as write-verdict-reads
 use Rattle.changes.proofs.set.Reads as set-reads
 use Rattle.receiving.proofs.receive.Reads as receive-reads
-use Rattle.port.proofs.Port.transmit.Reads as transmit-reads
-use Rattle.port.proofs.Port.write.Reads as write-reads
+use Rattle.writing.proofs.transmit.Reads as transmit-reads
+use Rattle.writing.proofs.write.Reads as write-reads
 use Rattle.reads.proofs.read.Reads as read-reads
 
 enum-known-call : tie.Need-enum-known-call

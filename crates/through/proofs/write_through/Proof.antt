@@ -14,8 +14,8 @@ use Rattle.through.proofs.write_through.Statement.{statement}
 use Rattle.through.proofs.write_through.Tie as tie
 use Rattle.through.proofs.write_through.Reads as reads
 use Rattle.through.proofs.write_through.Lts as lts
-use Rattle.port.proofs.Port.transmit.Reads as transmit-reads
-use Rattle.port.proofs.Port.write.Reads as write-reads
+use Rattle.writing.proofs.transmit.Reads as transmit-reads
+use Rattle.writing.proofs.write.Reads as write-reads
 use Rattle.through.proofs.taken.Reads as taken-reads
 
 write-requires : tie.Need-write-requires

@@ -1,0 +1,15 @@
+-- `writing::nothing_taken` meets its contract. Assumes nothing.
+use Rattle.port.proofs.Laws.{some-bytes, no-bytes}
+use Rattle.writing.proofs.nothing_taken.Statement.{statement}
+use Rattle.writing.proofs.nothing_taken.Tie as tie
+use Rattle.writing.proofs.nothing_taken.Reads as reads
+use Rattle.writing.proofs.nothing_taken.Lts as lts
+
+returns : tie.Need-returns
+returns c = some-bytes (c .before .args .len) (c .before .args .count) (c .if1 .taken)
+
+returns-2 : tie.Need-returns-2
+returns-2 c = no-bytes (c .before .args .len) (c .before .args .count) (c .if1 .left)
+
+pub nothing-taken-spec : {M : Type 1} → statement M
+nothing-taken-spec = tie.close (tie.spec returns returns-2)
