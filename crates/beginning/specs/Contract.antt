@@ -2,8 +2,8 @@
 use mathlib.Core.Bool.{Bool, false, not, _&&_}
 use Rattle.rules.specs.declared.Settings.{Settings}
 use Rattle.port.specs.declared.Port.{Port}
-use Rattle.flushing.specs.Contract.{assembled}
-use Rattle.signalling.specs.Contract.{literalTo, stopTo}
+use Rattle.assembling.specs.Contract.{assembled}
+use Rattle.stopping.specs.Contract.{literalTo, stopTo}
 
 -- 'IXON and IXANY: output resumes.'
 abbrev pub resumed : Settings → Bool → Bool

@@ -27,5 +27,5 @@ pub fn begins(p: Port) -> Port
     let input = i.with_literal(false);
     let output = o.stop(resumes(x, o.stopped));
     let waiting = p.waiting;
-    flushing::assemble(p, input, output, waiting)
+    assembling::assemble(p, input, output, waiting)
 }

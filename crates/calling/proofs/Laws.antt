@@ -18,8 +18,8 @@ use Rattle.output.proofs.Laws as queued
 use Rattle.port.specs.State.{places, sizes, get}
 use Rattle.port.specs.declared.Port.{Port}
 use Rattle.port.specs.declared.Answered.{Answered}
-use Rattle.flushing.specs.Contract.{state, sizesOf, Ranged, Ready, Becomes, Turns}
-use Rattle.flushing.proofs.Laws.{as-state}
+use Rattle.assembling.specs.Contract.{state, sizesOf, Ranged, Ready, Becomes, Turns}
+use Rattle.assembling.proofs.Laws.{as-state}
 use Rattle.calling.specs.Contract.{Leaves, Asks, ranged}
 
 ---- The places of the input

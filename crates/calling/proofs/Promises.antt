@@ -21,8 +21,8 @@ use Rattle.port.specs.State.{places, sizes, get}
 use Rattle.port.specs.Contract.{refused}
 use Rattle.port.specs.declared.Port.{Port}
 use Rattle.port.specs.declared.Answered.{Answered}
-use Rattle.flushing.specs.Contract.{Becomes, state}
-use Rattle.flushing.proofs.Laws.{one-port}
+use Rattle.assembling.specs.Contract.{Becomes, state}
+use Rattle.assembling.proofs.Laws.{one-port}
 use Rattle.following.specs.Following.{Follows, grown, fewer, Goes}
 use Rattle.calling.specs.Contract.{Leaves, Calls, Keeps, Asks, Now}
 use Rattle.calling.proofs.Laws.{bytes-long, marks-long}

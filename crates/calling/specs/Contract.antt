@@ -15,7 +15,7 @@ use Rattle.port.specs.State.{places, sizes, get}
 use Rattle.port.specs.Contract.{refused}
 use Rattle.port.specs.declared.Port.{Port}
 use Rattle.port.specs.declared.Answered.{Answered}
-use Rattle.flushing.specs.Contract.{Becomes, assembled}
+use Rattle.assembling.specs.Contract.{Becomes, assembled}
 
 -- the rules' step from what a port and its slices are
 abbrev pub stepOf : Port → List ℕ → List ℕ → List ℕ → Call → List ℕ → State × Reply

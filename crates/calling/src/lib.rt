@@ -12,5 +12,5 @@ pub fn in_range(p: Port, n: usize, m: usize) -> Port
     let input = i.fit(n);
     let output = o.fit(m);
     let waiting = p.waiting;
-    flushing::assemble(p, input, output, waiting)
+    assembling::assemble(p, input, output, waiting)
 }

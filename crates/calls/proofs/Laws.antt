@@ -14,7 +14,7 @@ use Rattle.rules.specs.Verdicts as verdict
 use Rattle.port.specs.State.{get}
 use Rattle.port.specs.declared.Port.{Port}
 use Rattle.port.specs.declared.Answered.{Answered}
-use Rattle.flushing.specs.Contract.{assembled}
+use Rattle.assembling.specs.Contract.{assembled}
 use Rattle.calling.specs.Contract.{stepOf, withGroup, grouped, cancelled}
 
 ---- The foreground group

@@ -9,7 +9,7 @@ use Rattle.rules.specs.Verdicts as verdict
 use Rattle.port.specs.State.{sizes, get}
 use Rattle.port.specs.declared.Port.{Port}
 use Rattle.port.specs.declared.Answered.{Answered}
-use Rattle.flushing.specs.Contract.{state}
+use Rattle.assembling.specs.Contract.{state}
 use Rattle.calling.specs.Contract.{stepOf, grouped, cancelled, Now}
 
 module _ (p : Port) (bs ms os : List ℕ) where

@@ -45,6 +45,6 @@ pub fn cancel(p: Port) -> Answered
 {
     let input = p.input;
     let output = p.output;
-    let q = flushing::assemble(p, input, output, Waiting::Idle);
+    let q = assembling::assemble(p, input, output, Waiting::Idle);
     port::says(q, Outcome::Ok, 0)
 }

@@ -7,7 +7,7 @@ use Rattle.rules.specs.Received as steps
 use Rattle.meaning.specs.Meaning.{meaningOf}
 use Rattle.meaning.specs.declared.Meaning.{Meaning}
 use Rattle.port.specs.declared.Port.{Port}
-use Rattle.flushing.specs.Contract.{state, Becomes}
+use Rattle.assembling.specs.Contract.{state, Becomes}
 
 pub meant : {m k : Meaning} (p r : Port) (bs ms os bs′ ms′ os′ : List ℕ) (z : Sizes) → m ≡ k
     → Becomes p bs ms os (steps.carry z (state p bs ms os) (meaningOf (p .settings) k) .0) r bs′ ms′ os′

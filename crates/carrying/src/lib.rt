@@ -2,7 +2,7 @@
 ghost use lib.ListN.{length};
 ghost use Rattle.rules.specs.Received as steps;
 ghost use Rattle.meaning.specs.Meaning.{meaningOf};
-ghost use Rattle.flushing.specs.Contract.{Becomes, Ready, state, sizesOf};
+ghost use Rattle.assembling.specs.Contract.{Becomes, Ready, state, sizesOf};
 use meaning::Meaning;
 use port::Port;
 
@@ -13,10 +13,10 @@ pub fn carries(p: Port, bytes: &mut [u8], marks: &mut [u8], out: &mut [u8], m: M
 {
     let n = bytes.len();
     match m {
-        Meaning::LiteralNext => signalling::sets_literal(p),
+        Meaning::LiteralNext => stopping::sets_literal(p),
         Meaning::Signals(_, b) => signalling::signals(p, n, out, b),
-        Meaning::Stops => signalling::stopped_to(p, true),
-        Meaning::Starts => signalling::stopped_to(p, false),
+        Meaning::Stops => stopping::stopped_to(p, true),
+        Meaning::Starts => stopping::stopped_to(p, false),
         Meaning::Drops => p,
         Meaning::Edits(e, b) => edits::edit(p, bytes, marks, out, e, b),
         Meaning::Ends(b) => ending::ends(p, bytes, marks, out, b),

@@ -65,7 +65,7 @@ pub fn set(p: Port, bytes: &mut [u8], marks: &mut [u8], x: Settings) -> Answered
     ensures { λ r. ⌜ Sets p (now (bytes .entry)) (now (marks .entry)) x (stepOf p (now (bytes .entry)) (now (marks .entry)) [] (Call.Set x) []) r (now (bytes .exit)) (now (marks .exit)) ⌝ }
 {
     let w = p.waiting;
-    if waiting::a_read_waits(w) {
+    if clashing::a_read_waits(w) {
         return port::says(p, Outcome::Refused(Refusal::ReadWaits), 0);
     }
     if accepting::acceptable(x) {

@@ -19,8 +19,8 @@ pub fn complete(
     requires { ⌜ length (now kept) ≡ 517 ⌝ }
     ensures { λ r. ⌜ Records p (now (bytes .entry)) (now (marks .entry)) (now (out .entry)) index (kindOf (now (kept .entry))) (bodyOf (now (kept .entry))) (now (line .entry)) r (now (bytes .exit)) (now (marks .exit)) (now (out .exit)) (now (line .exit)) ⌝ }
 {
-    let n = queue::least(records::two(kept[0], kept[1]), 513);
-    let kind = records::two(kept[2], kept[3]);
+    let n = queue::least(bodies::two(kept[0], kept[1]), 513);
+    let kind = bodies::two(kept[2], kept[3]);
     let to = 4 + n;
     trace::record(p, bytes, marks, out, index, kind, &kept[4..to], line)
 }

@@ -61,10 +61,10 @@ pub fn show(o: Output, x: Settings, out: &mut [u8], b: u8) -> Output
     let c = v.byte;
     if v.pair {
         let e = [94u8, c];
-        return o.show(x, out, &e);
+        return queuing::show(o, x, out, &e);
     }
     let e = [c];
-    o.show(x, out, &e)
+    queuing::show(o, x, out, &e)
 }
 
 // and 10 behind it
@@ -75,10 +75,10 @@ pub fn show_line(o: Output, x: Settings, out: &mut [u8], b: u8) -> Output
     let c = v.byte;
     if v.pair {
         let e = [94u8, c, 10];
-        return o.show(x, out, &e);
+        return queuing::show(o, x, out, &e);
     }
     let e = [c, 10];
-    o.show(x, out, &e)
+    queuing::show(o, x, out, &e)
 }
 
 // the byte as it is visible, behind what is measured

@@ -2,10 +2,8 @@
 // back over the current line alone. REPRINT goes forward over it, place by place.
 ghost use mathlib.Core.Path.{_≡_};
 ghost use mathlib.Core.List.{List};
-ghost use Prim.Native.Nat.{ℕ, _/_, _%_, _<_, min};
-ghost use lib.ListN.{length, getD};
-ghost use lib.Dec.{eqb};
-ghost use Rattle.queue.specs.Queue.{held};
+ghost use Prim.Native.Nat.{ℕ, _<_, min};
+ghost use lib.ListN.{length};
 ghost use Rattle.rules.specs.Editing.{units};
 ghost use Rattle.input.specs.Contract.{get, Within};
 ghost use Rattle.editing.specs.Contract.{unitsTo, Line, Starts, Cuts, Removes, showsAt};
@@ -15,20 +13,6 @@ use input::Input;
 pub struct Run {
     pub at: usize,
     pub units: usize,
-}
-
-// the mark of a place that is the first of a unit
-fn starts(m: u8) -> bool
-    ensures { λ r. ⌜ r ≡ eqb (m % 2) 1 ⌝ }
-{
-    m % 2 == 1
-}
-
-// the mark of a place whose unit had no echo
-fn silent(m: u8) -> bool
-    ensures { λ r. ⌜ r ≡ eqb (m / 8 % 2) 1 ⌝ }
-{
-    m / 8 % 2 == 1
 }
 
 // where the unit begins whose last place stands before end
@@ -41,7 +25,7 @@ pub fn unit_start(i: Input, marks: &[u8], end: usize) -> usize
     let mut at = end - 1;
     while at > i.ready {
         let m = q.at(marks, at);
-        if starts(m) {
+        if marks::starts(m) {
             return at;
         }
         at = at - 1;
@@ -94,19 +78,11 @@ pub fn is_shown(i: Input, marks: &[u8], k: usize) -> bool
 {
     let q = i.queue;
     let m = q.at(marks, k);
-    if silent(m) {
+    if marks::silent(m) {
         return false;
     }
     if k == i.ready {
         return true;
     }
-    starts(m)
-}
-
-// the byte at place k
-pub fn byte_at(i: Input, bytes: &[u8], k: usize) -> u8
-    ensures { λ r. ⌜ r ≡ getD (held (i .queue) (now (bytes .entry))) k 0 ⌝ }
-{
-    let q = i.queue;
-    q.at(bytes, k)
+    marks::starts(m)
 }

@@ -4,7 +4,7 @@ ghost use lib.ListN.{length};
 ghost use Rattle.rules.specs.Fit as fit;
 ghost use Rattle.rules.specs.Sizes.{delimiter, endOfFile};
 ghost use Rattle.rules.specs.Echo as echo;
-ghost use Rattle.flushing.specs.Contract.{Becomes, Ready, state, sizesOf};
+ghost use Rattle.assembling.specs.Contract.{Becomes, Ready, state, sizesOf};
 use port::Port;
 
 // 'a non-literal 10, EOL or EOL2 is stored and ends the line'
@@ -15,7 +15,7 @@ pub fn ends(p: Port, bytes: &mut [u8], marks: &mut [u8], out: &mut [u8], b: u8) 
     let x = p.settings;
     let i = p.input;
     let n = bytes.len();
-    if places::end_fits(i, n) {
+    if fitting::end_fits(i, n) {
         let input = places::end(i, bytes, marks, b);
         let o = p.output;
         let output = showing::of_stored(o, x, out, b);
@@ -32,7 +32,7 @@ pub fn marks_end(p: Port, bytes: &mut [u8], marks: &mut [u8], out: &mut [u8]) ->
     let x = p.settings;
     let i = p.input;
     let n = bytes.len();
-    if places::end_fits(i, n) {
+    if fitting::end_fits(i, n) {
         let input = places::end_of_file(i, bytes, marks);
         let output = p.output;
         return flushing::stored(p, input, output);

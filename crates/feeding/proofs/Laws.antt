@@ -13,7 +13,7 @@ use Rattle.rules.specs.Refusals.{Reply, handed}
 use Rattle.rules.specs.Trace.{text, decimal, hexOrDash, outcomeWord, line, fullLine, traceFrom}
 use Rattle.rules.proofs.OutputLaws.{append-nil}
 use Rattle.port.specs.State.{sizes, get}
-use Rattle.lines.specs.Lines.{Prints}
+use Rattle.texts.specs.Puts.{Prints}
 use Rattle.trace.specs.Contract.{answeredOf, Records}
 use Rattle.trace.specs.declared.Recorded.{Recorded}
 use Rattle.gathering.specs.Contract.{sizeOf, kindOf, bodyOf, isOpen, come, pending, Gathers}

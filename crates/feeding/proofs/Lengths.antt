@@ -21,7 +21,8 @@ use Rattle.rules.specs.Reads as reads
 use Rattle.rules.specs.Step.{step}
 use Rattle.rules.specs.Trace as trace
 use Rattle.rules.specs.Trace.{text, digits, decimal, hex, hexOrDash, signalWord, verdictWord, outcomeWord, wellFormed, malformed, decode, answered, line, cutLine, fullLine}
-use Rattle.trace.proofs.Bounds.{Bounded, bounded}
+use Rattle.asking.specs.Asking.{Asked}
+use Rattle.asking.proofs.Laws.{asked-of}
 use Rattle.trace.proofs.Laws.{handed-count}
 
 ---- What a call hands out
@@ -81,9 +82,9 @@ module _ (z : Sizes) (s : State) (l : List ℕ) where
   handed-short (WriteVerdict p) = omega (arith, handed-count z s l (WriteVerdict p))
   handed-short (SettingsVerdict p) = omega (arith, handed-count z s l (SettingsVerdict p))
 
-answered-short : (z : Sizes) (s : State) (x : trace.Decoded) → Bounded x → length (handed (answered z s x .1)) ≤ 2048
-answered-short z s (wellFormed a) b = omega (arith, handed-short z s (a .lent) (a .call), b)
-answered-short z s malformed b = omega arith
+answered-short : (z : Sizes) (s : State) (kind : ℕ) (body : List ℕ) (x : trace.Decoded) → Asked kind body x → length (handed (answered z s x .1)) ≤ 2048
+answered-short z s kind body (wellFormed a) b = omega (arith, handed-short z s (a .lent) (a .call), b .few)
+answered-short z s kind body malformed b = omega arith
 
 ---- What is printed for it
 
@@ -153,7 +154,7 @@ reply-short i k r le =
 
 pub line-at-most : (z : Sizes) (s : State) (i kind : ℕ) (body : List ℕ) → length (line i kind (answered z s (decode kind body) .1)) ≤ 4123
 line-at-most z s i kind body =
-    reply-short i kind (answered z s (decode kind body) .1) (answered-short z s (decode kind body) (bounded kind body))
+    reply-short i kind (answered z s (decode kind body) .1) (answered-short z s kind body (decode kind body) (asked-of kind body))
 
 pub cut-at-most : (i : ℕ) → length (cutLine i) ≤ 4123
 cut-at-most i = omega (arith, length-append (decimal i) (text " cut\n"), digits-short 5 i)

@@ -12,8 +12,8 @@ use Rattle.rules.specs.Settings.{fresh}
 use Rattle.rules.specs.Trace.{cutLine, fullLine, traceFrom, trace}
 use Rattle.port.specs.State.{sizes, get}
 use Rattle.port.specs.Contract as port
-use Rattle.lines.specs.Lines.{Prints}
-use Rattle.discipline.proofs.Demand2.{fresh-state}
+use Rattle.texts.specs.Puts.{Prints}
+use Rattle.port.proofs.Fresh.{fresh-state}
 use Rattle.stream.specs.declared.Stream.{Stream}
 use Rattle.feeding.specs.declared.Fed.{Fed}
 use Rattle.stream.specs.Contract.{future, left, beginning}

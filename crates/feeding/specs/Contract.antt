@@ -4,7 +4,7 @@ use mathlib.Core.Path.{_≡_}
 use mathlib.Core.List.{List, [], _++_}
 use mathlib.Core.Logic.{_⊎_}
 use lib.ListN.{length, drop}
-use Rattle.lines.specs.Lines.{Prints}
+use Rattle.texts.specs.Puts.{Prints}
 use Rattle.port.specs.declared.Port.{Port}
 use Rattle.trace.specs.Contract.{Records}
 use Rattle.stream.specs.declared.Stream.{Stream}

@@ -4,7 +4,7 @@ use mathlib.Core.Path.{_≡_}
 use mathlib.Core.List.{List, [], _∷_, _++_}
 use lib.ListN.{length, take, drop}
 use Rattle.rules.specs.Trace.{trace}
-use Rattle.lines.specs.Lines.{Prints}
+use Rattle.texts.specs.Puts.{Prints}
 use Rattle.stream.specs.declared.Stream.{Stream}
 use Rattle.feeding.specs.declared.Fed.{Fed}
 use Rattle.stream.specs.Contract.{future, left, beginning}

@@ -39,7 +39,7 @@ fn advance(
     }
     let port = g.port;
     if g.index >= 65535 { // 'At most 65,535 records are read'
-        let k = lines::put_full(line, g.index);
+        let k = lastlines::put_full(line, g.index);
         return Fed {
             stream: Stream {
                 port: port,

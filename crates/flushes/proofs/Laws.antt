@@ -16,8 +16,8 @@ use Rattle.port.specs.State.{places, get}
 use Rattle.port.specs.Contract.{flushed}
 use Rattle.port.specs.declared.Port.{Port}
 use Rattle.port.specs.declared.Answered.{Answered}
-use Rattle.flushing.specs.Contract.{state, Ranged, Turns}
-use Rattle.flushing.proofs.Laws.{as-assembled, input-stays}
+use Rattle.assembling.specs.Contract.{state, Ranged, Turns}
+use Rattle.assembling.proofs.Laws.{as-assembled, input-stays}
 use Rattle.calling.proofs.Laws.{asks-as, ranged-ranged, turned-of}
 use Rattle.calling.specs.Contract.{Asks, ranged}
 

@@ -11,7 +11,7 @@ use Rattle.port.specs.State.{sizes, get}
 use Rattle.port.specs.Contract.{refused}
 use Rattle.port.specs.declared.Port.{Port}
 use Rattle.port.specs.declared.Answered.{Answered}
-use Rattle.flushing.specs.Contract.{state}
+use Rattle.assembling.specs.Contract.{state}
 use Rattle.following.specs.Following.{Goes}
 use Rattle.following.proofs.Laws.{flushed-goes}
 use Rattle.calling.specs.Contract.{stepOf, Leaves, Keeps, Asks, Now}

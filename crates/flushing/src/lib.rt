@@ -1,29 +1,12 @@
-// Document 01: a port put together again after an event; flushing its input; overflow; the timer of a waiting read.
+// Document 01, 'Received events', on a port: flushing its input; overflow; what was stored, and the timer of a waiting read.
 ghost use mathlib.Core.Path.{_≡_};
 ghost use lib.ListN.{length};
 ghost use Rattle.rules.specs.Flushing as flushing;
 ghost use Rattle.rules.specs.Fit as fit;
-ghost use Rattle.flushing.specs.Contract.{Turns, Ranged, assembled};
+ghost use Rattle.assembling.specs.Contract.{Turns, Ranged, assembled};
 use input::Input;
 use output::Output;
 use port::Port;
-use rules::Waiting;
-
-pub fn assemble(p: Port, input: Input, output: Output, waiting: Waiting) -> Port
-    ensures { λ r. ⌜ r ≡ assembled p input output waiting ⌝ }
-{
-    let settings = p.settings;
-    let foreground = p.foreground;
-    Port {
-        settings: settings,
-        line: p.line,
-        input: input,
-        output: output,
-        foreground: foreground,
-        hung: p.hung,
-        waiting: waiting,
-    }
-}
 
 // 'Flushing input drops finished lines, the current line and "literal next".'
 pub fn flush_input(p: Port, n: usize, out: &[u8]) -> Port
@@ -36,7 +19,7 @@ pub fn flush_input(p: Port, n: usize, out: &[u8]) -> Port
     let output = p.output;
     let waiting = p.waiting;
     let w = timing::timer_flushed(timing::between_bytes(x), waiting);
-    assemble(p, input, output, w)
+    assembling::assemble(p, input, output, w)
 }
 
 // 'What does not fit is dropped without echo: IMAXBEL queues byte 7 unprocessed, if there is room; else all input is flushed.'
@@ -47,10 +30,10 @@ pub fn overflow(p: Port, n: usize, out: &mut [u8]) -> Port
     let x = p.settings;
     if x.imaxbel {
         let o = p.output;
-        let output = o.bell(x, out);
+        let output = queuing::bell(o, x, out);
         let input = p.input;
         let waiting = p.waiting;
-        return assemble(p, input, output, waiting);
+        return assembling::assemble(p, input, output, waiting);
     }
     flush_input(p, n, out)
 }
@@ -62,5 +45,5 @@ pub fn stored(p: Port, input: Input, output: Output) -> Port
     let x = p.settings;
     let waiting = p.waiting;
     let w = timing::timer_stored(timing::between_bytes(x), x, waiting);
-    assemble(p, input, output, w)
+    assembling::assemble(p, input, output, w)
 }

@@ -14,7 +14,8 @@ use Rattle.rules.specs.Trace as trace
 use Rattle.rules.specs.Trace.{two, decode, answered, line, cutLine, traceFrom}
 use Rattle.rules.proofs.OutputLaws.{append-nil}
 use Rattle.gathering.specs.Contract.{sizeOf, kindOf, bodyOf, isOpen, come, pending}
-use Rattle.gathering.proofs.Rules.{trace-short, trace-cut, trace-record, long-malformed, blind}
+use Rattle.asking.proofs.Laws.{long-malformed}
+use Rattle.gathering.proofs.Rules.{trace-short, trace-cut, trace-record, blind}
 
 -- a list of four and more
 by-four : (P : List ℕ → Type 0) (l : List ℕ) → 4 ≤ length l → ((a b c d : ℕ) (k : List ℕ) → P (a ∷ b ∷ c ∷ d ∷ k)) → P l

@@ -3,20 +3,16 @@ use Prim.Native.Nat.{ℕ, zero, suc, _+_, _-_, _≤_, _<_}
 use native.Mathlib.Omega.{arith}
 use Rattle.queue.proofs.Rings.{lt-or-le}
 use mathlib.Core.Path.{_≡_, refl, sym, ap, ap₂, subst, _∙_}
-use mathlib.Core.Bool.{Bool, true, false, cond}
+use mathlib.Core.Bool.{Bool, cond}
 use mathlib.Core.List.{List, [], _∷_, _++_}
 use mathlib.Core.Logic.{⊎-elim}
 use lib.ListN.{length, take, drop, length-append, length-take}
 use lib.Seq.{drop-append-add}
-use borrow.Author.Tests.{le-leb, lt-leb, ne-eqb}
-use lib.Dec.{eqb}
-use Rattle.rules.specs.declared.Call.{Call}
-use Rattle.rules.specs.declared.Call.the-variants.{Receive, Write, Cancel}
-use Rattle.rules.specs.declared.Event.{Event}
-use Rattle.rules.specs.declared.Event.the-variants.{Good, Parity, Framing, Break, Tick, Hangup}
+use borrow.Author.Tests.{le-leb, lt-leb}
 use Rattle.rules.specs.Sizes.{Sizes, State}
 use Rattle.rules.specs.Refusals.{Reply}
 use Rattle.rules.specs.Trace as trace
+use Rattle.asking.proofs.Laws.{long-malformed}
 use Rattle.rules.specs.Trace.{malformed, Front, nothing, cut, aRecord, front, two, decode, answered, line, cutLine, fullLine, traceFrom}
 
 -- the lines for what stands at the front
@@ -75,75 +71,6 @@ module _ (z : Sizes) (i : ℕ) (s : State) where
     trace-record le =
         by-front z m i s (a ∷ b ∷ c ∷ d ∷ l)
         ∙ ap (λ (t : Bool). fronted z m i s (cond t (aRecord (two c d) (take n l) (drop n l)) cut)) (le-leb n (length l) le)
-
----- 'wrong lengths ... are malformed': a body of more than 512 bytes
-
-settings-long : (body : List ℕ) → 512 < length body → trace.settingsRecord body ≡ malformed
-settings-long [] lt = refl
-settings-long (a ∷ []) lt = refl
-settings-long (a ∷ b ∷ []) lt = refl
-settings-long (a ∷ b ∷ c ∷ []) lt = refl
-settings-long (a ∷ b ∷ c ∷ d ∷ values) lt =
-    ap (λ (t : Bool). trace.settingsOn t (trace.four a b c d) values) (ne-eqb (length values) 15 (λ e. omega arith))
-
-byte-long : (e : ℕ → Event) (body : List ℕ) → 512 < length body → trace.byteRecord e body ≡ malformed
-byte-long e [] lt = refl
-byte-long e (b ∷ []) lt = absurd (omega arith)
-byte-long e (b ∷ c ∷ bs) lt = refl
-
-empty-long : (c : Call) (body : List ℕ) → 512 < length body → trace.emptyRecord c body ≡ malformed
-empty-long c [] lt = absurd (omega arith)
-empty-long c (b ∷ bs) lt = refl
-
-read-long : (body : List ℕ) → 512 < length body → trace.readRecord body ≡ malformed
-read-long [] lt = refl
-read-long (a ∷ []) lt = refl
-read-long (a ∷ b ∷ []) lt = refl
-read-long (a ∷ b ∷ c ∷ []) lt = absurd (omega arith)
-read-long (a ∷ b ∷ c ∷ d ∷ bs) lt = refl
-
-write-long : (body : List ℕ) → 512 < length body → trace.writeRecord body ≡ malformed
-write-long body lt = ap (λ (t : Bool). cond t (trace.asks Write body) malformed) (lt-leb (length body) 512 lt)
-
-transmit-long : (body : List ℕ) → 512 < length body → trace.transmitRecord body ≡ malformed
-transmit-long [] lt = refl
-transmit-long (a ∷ []) lt = refl
-transmit-long (a ∷ b ∷ []) lt = absurd (omega arith)
-transmit-long (a ∷ b ∷ c ∷ bs) lt = refl
-
-flush-long : (body : List ℕ) → 512 < length body → trace.flushRecord body ≡ malformed
-flush-long [] lt = refl
-flush-long (a ∷ []) lt = absurd (omega arith)
-flush-long (a ∷ b ∷ bs) lt = refl
-
-foreground-long : (body : List ℕ) → 512 < length body → trace.foregroundRecord body ≡ malformed
-foreground-long [] lt = refl
-foreground-long (a ∷ []) lt = refl
-foreground-long (a ∷ b ∷ []) lt = refl
-foreground-long (a ∷ b ∷ c ∷ []) lt = refl
-foreground-long (a ∷ b ∷ c ∷ d ∷ []) lt = refl
-foreground-long (a ∷ b ∷ c ∷ d ∷ e ∷ []) lt = absurd (omega arith)
-foreground-long (a ∷ b ∷ c ∷ d ∷ e ∷ f ∷ bs) lt = refl
-
-either : (t : Bool) (a b : trace.Decoded) → a ≡ malformed → b ≡ malformed → cond t a b ≡ malformed
-either true a b e f = e
-either false a b e f = f
-
-pub long-malformed : (kind : ℕ) (body : List ℕ) → 512 < length body → decode kind body ≡ malformed
-long-malformed kind body lt =
-    either (eqb kind 1) (trace.settingsRecord body) _ (settings-long body lt)
-    (either (eqb kind 2) (trace.byteRecord Good body) _ (byte-long Good body lt)
-    (either (eqb kind 3) (trace.byteRecord Parity body) _ (byte-long Parity body lt)
-    (either (eqb kind 4) (trace.byteRecord Framing body) _ (byte-long Framing body lt)
-    (either (eqb kind 5) (trace.emptyRecord (Receive Break) body) _ (empty-long (Receive Break) body lt)
-    (either (eqb kind 6) (trace.emptyRecord (Receive Tick) body) _ (empty-long (Receive Tick) body lt)
-    (either (eqb kind 7) (trace.emptyRecord (Receive Hangup) body) _ (empty-long (Receive Hangup) body lt)
-    (either (eqb kind 8) (trace.readRecord body) _ (read-long body lt)
-    (either (eqb kind 9) (trace.writeRecord body) _ (write-long body lt)
-    (either (eqb kind 10) (trace.transmitRecord body) _ (transmit-long body lt)
-    (either (eqb kind 11) (trace.flushRecord body) _ (flush-long body lt)
-    (either (eqb kind 12) (trace.emptyRecord Cancel body) _ (empty-long Cancel body lt)
-    (either (eqb kind 13) (trace.foregroundRecord body) _ (foreground-long body lt) refl))))))))))))
 
 ---- What a long body holds is of no account
 

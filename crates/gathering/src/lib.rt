@@ -11,7 +11,7 @@ pub fn is_open(kept: &[u8], have: usize) -> bool
     ensures { λ r. ⌜ r ≡ isOpen (now (kept .entry)) have ⌝ }
     ensures { λ r. ⌜ (r ≡ true → have < 65539) ⌝ }
 {
-    let size = 4 + records::two(kept[0], kept[1]);
+    let size = 4 + bodies::two(kept[0], kept[1]);
     have < size
 }
 

@@ -14,9 +14,9 @@ use Rattle.output.specs.Contract as output
 use Rattle.meaning.specs.Meaning.{meaningOf}
 use Rattle.meaning.specs.declared.Meaning.{Meaning}
 use Rattle.port.specs.declared.Port.{Port}
-use Rattle.flushing.specs.Contract.{state, sizesOf, Ready, Becomes}
-use Rattle.flushing.proofs.Laws.{as-state}
-use Rattle.signalling.specs.Contract.{stopTo}
+use Rattle.assembling.specs.Contract.{state, sizesOf, Ready, Becomes}
+use Rattle.assembling.proofs.Laws.{as-state}
+use Rattle.stopping.specs.Contract.{stopTo}
 use Rattle.goodbyte.specs.Contract.{Answers, Tells}
 use Rattle.beginning.specs.Contract.{resumed, begun}
 

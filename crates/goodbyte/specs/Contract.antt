@@ -10,7 +10,7 @@ use Rattle.rules.specs.Received.{carry}
 use Rattle.meaning.specs.Meaning.{meaningOf}
 use Rattle.meaning.specs.declared.Meaning.{Meaning}
 use Rattle.port.specs.declared.Port.{Port}
-use Rattle.flushing.specs.Contract.{Becomes}
+use Rattle.assembling.specs.Contract.{Becomes}
 use Rattle.goodbyte.specs.declared.Reported.{Reported}
 
 pub record Answers (p : Port) (bs ms os : List ℕ) (w : State × Outcome) (r : Reported) (bs′ ms′ os′ : List ℕ) : Type 0 where

@@ -1,7 +1,7 @@
 // Document 01, 'A good byte, in this order': steps 1 to 9, and what is reported.
 ghost use lib.ListN.{length};
 ghost use Rattle.rules.specs.Received as steps;
-ghost use Rattle.flushing.specs.Contract.{Ready, state, sizesOf};
+ghost use Rattle.assembling.specs.Contract.{Ready, state, sizesOf};
 ghost use Rattle.goodbyte.specs.Contract.{Answers, Tells};
 use meaning::Meaning;
 use port::Port;
@@ -37,7 +37,7 @@ pub fn good(p: Port, bytes: &mut [u8], marks: &mut [u8], out: &mut [u8], b: u8) 
 {
     let x = p.settings;
     let i = p.input;
-    let m = meaning::means(x, i.literal, meaning::stripped(x, b));
+    let m = meaning::means(x, i.literal, mapping::stripped(x, b));
     let q = beginning::begins(p);
     let f = q.foreground;
     let outcome = tells(m, f);

@@ -1,29 +1,10 @@
--- A line is texts one after the other, from the front of the buffer on. Assumes nothing.
-use Prim.Native.Nat.{ℕ, suc}
-use mathlib.Core.Path.{_≡_, refl, ap, sym, _∙_}
-use mathlib.Core.List.{List, [], _∷_, _++_, append-assoc}
-use native.Mathlib.Omega.{arith}
-use lib.ListN.{length, set, take, drop}
-use lib.Seq.{sets, drop-nil}
+-- A line is texts one after the other. Assumes nothing.
+use Prim.Native.Nat.{ℕ}
+use mathlib.Core.Path.{sym}
+use mathlib.Core.List.{List, _++_, append-assoc}
 use Rattle.rules.specs.Trace.{text}
-use Rattle.lines.specs.Lines.{Prints}
 use Rattle.texts.specs.Puts.{Puts}
-use Rattle.texts.proofs.Texts.{then, same-text, sets-out}
+use Rattle.texts.proofs.Texts.{then, same-text}
 
 pub then-spaced : {l m k a : List ℕ} {i r q : ℕ} (b : List ℕ) → Puts l i a r m → Puts m r (b ++ text " ") q k → Puts l i (a ++ b ++ text " ") q k
 then-spaced {l} {m} {k} {a} b x y = same-text (sym (append-assoc a b (text " "))) (then x y)
-
--- the same place and buffer, otherwise written
-sets-cons : (x : ℕ) (l : List ℕ) (i : ℕ) (t : List ℕ) → sets (x ∷ l) (suc i) t ≡ x ∷ sets l i t
-sets-cons x l i [] = refl
-sets-cons x l i (y ∷ t) = sets-cons x (set l i y) (suc i) t
-
-sets-front : (l t : List ℕ) → sets l 0 t ≡ take (length l) t ++ drop (length t) l
-sets-front [] t = sets-out [] 0 t (omega arith) ∙ sym (drop-nil (length t))
-sets-front (y ∷ l) [] = refl
-sets-front (y ∷ l) (x ∷ t) = sets-cons x l 0 t ∙ ap (λ (m : List ℕ). x ∷ m) (sets-front l t)
-
-pub prints : {l m t : List ℕ} {r : ℕ} → Puts l 0 t r m → Prints l t r m
-prints {l} {m} {t} {r} x =
-    let x-place = x .place in
-    record { count = omega arith; buffer = x .buffer ∙ sets-front l t }

@@ -1,18 +1,13 @@
 -- What the writers of lines promise.
-use Prim.Native.Nat.{ℕ, _≤_, min}
+use Prim.Native.Nat.{ℕ, _≤_}
 use mathlib.Core.Path.{_≡_}
 use mathlib.Core.List.{List, [], _++_}
-use lib.ListN.{length, take, drop}
+use lib.ListN.{length, take}
 use Rattle.rules.specs.declared.Answer.{Answer}
 use Rattle.rules.specs.declared.Refusal.{Refusal}
 use Rattle.lines.specs.declared.Word.{Word}
 use Rattle.rules.specs.Refusals.{Reply, numberOf}
 use Rattle.rules.specs.Trace.{text, decimal, line}
-
--- The buffer l holds the text t after, as much of it as it has places for, and then its old bytes; r is how many bytes were written.
-pub record Prints (l t : List ℕ) (r : ℕ) (l′ : List ℕ) : Type 0 where
-  pub count : r ≡ min (length t) (length l)
-  pub buffer : l′ ≡ take (length l) t ++ drop (length t) l
 
 -- the reply with this answer and these bytes handed out
 abbrev pub replyOf : Answer → List ℕ → Reply

@@ -1,8 +1,8 @@
 // Document 01, 'The trace program': the line printed for a record.
 ghost use mathlib.Core.List.{_++_};
-ghost use Rattle.rules.specs.Trace.{text, decimal, signalWord, verdictWord, outcomeWord, cutLine, fullLine};
-ghost use Rattle.lines.specs.Lines.{Prints, Spells, refusalWord, lineOf};
-ghost use Rattle.texts.specs.Puts.{Puts};
+ghost use Rattle.rules.specs.Trace.{text, decimal, signalWord, verdictWord, outcomeWord};
+ghost use Rattle.lines.specs.Lines.{Spells, refusalWord, lineOf};
+ghost use Rattle.texts.specs.Puts.{Puts, Prints};
 use rules::Answer;
 use rules::Outcome;
 use rules::Refusal;
@@ -117,22 +117,6 @@ pub fn put_line(line: &mut [u8], index: usize, kind: usize, answer: Answer, give
     at = put_number(line, at, kind);
     at = put_outcome(line, at, outcome);
     at = put_number(line, at, answer.count);
-    at = texts::put_hex(line, at, given);
+    at = hex::put_hex(line, at, given);
     texts::put_byte(line, at, b'\n')
-}
-
-// 'A cut last record prints its index and `cut`.'
-pub fn put_cut(line: &mut [u8], index: usize) -> usize
-    ensures { λ r. ⌜ Prints (now (line .entry)) (cutLine index) r (now (line .exit)) ⌝ }
-{
-    let at = texts::put_decimal(line, 0, index);
-    texts::put_word(line, at, b" cut\n")
-}
-
-// 'one more, even cut, prints its index and `full` and ends'
-pub fn put_full(line: &mut [u8], index: usize) -> usize
-    ensures { λ r. ⌜ Prints (now (line .entry)) (fullLine index) r (now (line .exit)) ⌝ }
-{
-    let at = texts::put_decimal(line, 0, index);
-    texts::put_word(line, at, b" full\n")
 }

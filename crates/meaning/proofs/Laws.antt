@@ -1,13 +1,6 @@
 -- Tests and the choices by them. Assumes nothing.
-use mathlib.Core.Path.{_≡_, refl, sym, _∙_}
-use mathlib.Core.Bool.{Bool, true, false, _&&_, cond}
-
-pub and-left : (a b : Bool) → a ≡ false → (a && b) ≡ false
-and-left a b e = rw e
-
-pub and-right : (a b : Bool) → b ≡ false → (a && b) ≡ false
-and-right true b e = e
-and-right false b e = refl
+use mathlib.Core.Path.{_≡_, sym, _∙_}
+use mathlib.Core.Bool.{Bool, true, false, cond}
 
 -- r is the answer to the test t
 module _ {A : Type 0} {r : Bool} (t : Bool) where

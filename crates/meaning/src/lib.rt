@@ -1,4 +1,4 @@
-// What a good byte means: steps 1 and 3 to 9 of document 01, 'Received events'.
+// What a good byte means: steps 3 to 9 of document 01, 'Received events'.
 ghost use mathlib.Core.Path.{_≡_};
 ghost use mathlib.Core.Bool.{_&&_, _||_};
 ghost use lib.Dec.{eqb};
@@ -40,16 +40,6 @@ fn special(flag: bool, b: u8, c: u8) -> bool
     ensures { λ r. ⌜ r ≡ (flag && rule.is b c) ⌝ }
 {
     flag && is(b, c)
-}
-
-// 1. 'ISTRIP keeps the low seven bits.'
-pub fn stripped(x: Settings, b: u8) -> u8
-    ensures { λ r. ⌜ r ≡ steps.step1 x b ⌝ }
-{
-    if x.istrip {
-        return b % 128;
-    }
-    b
 }
 
 // 'Under ICANON a non-literal 10, EOL or EOL2 .. ends the line.'
@@ -97,26 +87,13 @@ fn step8(x: Settings, b: u8) -> Meaning
     step9(x, b)
 }
 
-// 7. '13: IGNCR drops, else ICRNL makes it 10. A received 10 becomes 13 under INLCR. One mapping only.'
-fn mapped(x: Settings, b: u8) -> u8
-    ensures { λ r. ⌜ r ≡ steps.mapped x b ⌝ }
-{
-    if b == 13 && x.icrnl {
-        return 10;
-    }
-    if b == 10 && x.inlcr {
-        return 13;
-    }
-    b
-}
-
 fn step7(x: Settings, b: u8) -> Meaning
     ensures { λ r. ⌜ meaningOf x r ≡ steps.step7 x b ⌝ }
 {
     if b == 13 && x.igncr {
         return Meaning::Drops;
     }
-    step8(x, mapped(x, b))
+    step8(x, mapping::mapped(x, b))
 }
 
 // 6. 'IXON: STOP stops output, START resumes it. Consumed, no echo.'

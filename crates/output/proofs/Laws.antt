@@ -16,8 +16,6 @@ use Rattle.rules.specs.Sizes.{Output as Ruled}
 use Rattle.rules.specs.Output.{columnAfter, queued, queuedWhole}
 use Rattle.rules.proofs.OutputLaws.{queued-append, queued-none}
 use Rattle.output.specs.Contract.{inRange, get, put, Becomes}
-use Rattle.expansion.specs.Contract.{bytesOf}
-use Rattle.expansion.specs.declared.Expansion.{Expansion}
 use Rattle.output.specs.declared.Output.{Output}
 
 pub get-length : (o : Output) (l : List ℕ) → length (get o l .queue) ≡ min (o .queue .len) (length l)
@@ -178,12 +176,7 @@ module _ (x : Settings) (o p : Output) (l : List ℕ) (e : p ≡ inRange (length
       let b : Becomes o l (get o l) (inRange (length l) o) l = stays o l in
       becomes o p l l (get o l) (queuedWhole (length l) x (get o l) f) (sym w) (record { output = e ∙ b .output; slice = b .slice })
 
----- put, by what the byte turns into
-
-pub turns : (x : Settings) (o r : Output) (l l′ : List ℕ) {e j : Expansion} → e ≡ j → Becomes o l (queued x (get o l) (bytesOf j)) r l′
-    → Becomes o l (queued x (get o l) (bytesOf e)) r l′
-turns x o r l l′ {e} {j} p b =
-    becomes o r l l′ (queued x (get o l) (bytesOf j)) (queued x (get o l) (bytesOf e)) (ap (λ (k : Expansion). queued x (get o l) (bytesOf k)) (sym p)) b
+---- put
 
 -- nothing to put: the output in range
 pub range-none : (x : Settings) (o p : Output) (l : List ℕ) → p ≡ inRange (length l) o → Becomes o l (queued x (get o l) []) p l

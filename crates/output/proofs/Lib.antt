@@ -1,3 +1,3 @@
 pub mod Laws
 pub mod Measured
-pub mod Run
+pub mod Sending

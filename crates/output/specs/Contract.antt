@@ -3,16 +3,15 @@
 use Prim.Native.Nat.{ℕ, _+_, _-_, _%_, min}
 use mathlib.Core.Path.{_≡_}
 use mathlib.Core.List.{List, [], _++_}
-use lib.ListN.{length, take, drop}
+use lib.ListN.{length, drop}
 use Rattle.queue.specs.Ring.{stores}
 use Rattle.queue.specs.Queue.{held, fitted, laid}
 use Rattle.rules.specs.declared.Settings.{Settings}
 use Rattle.rules.specs.Sizes.{Output as Ruled}
-use Rattle.rules.specs.Output.{written, taken, oldest}
+use Rattle.rules.specs.Output.{oldest}
 use Rattle.output.specs.declared.Output.{Output}
 use Rattle.columns.specs.declared.Measure.{Measure}
 use Rattle.columns.specs.Contract.{Measures}
-use Rattle.output.specs.declared.Wrote.{Wrote}
 use Rattle.output.specs.declared.Sent.{Sent}
 
 -- the output with its numbers in range of n bytes
@@ -31,14 +30,6 @@ put w h = record { queue = laid h (w .queue); column = w .column; stopped = w .s
 pub record Becomes (o : Output) (l : List ℕ) (w : Ruled) (r : Output) (l′ : List ℕ) : Type 0 where
   pub output : r ≡ put w (o .queue .head % length l)
   pub slice : l′ ≡ stores (length l) l (o .queue .head % length l) (w .queue)
-
--- how many bytes of src a write takes
-abbrev pub takes : Settings → Output → List ℕ → List ℕ → ℕ
-takes x o l src = taken (length l) x (length (get o l .queue)) (o .column) src
-
-pub record Writes (x : Settings) (o : Output) (l src : List ℕ) (r : Wrote) (l′ : List ℕ) : Type 0 where
-  pub count : r .count ≡ takes x o l src
-  pub output : Becomes o l (written x (get o l) (take (takes x o l src) src)) (r .output) l′
 
 -- The oldest bytes are given into d, none while stopped; the slice is as it was.
 pub record Sends (o : Output) (l d : List ℕ) (r : Sent) (d′ : List ℕ) : Type 0 where

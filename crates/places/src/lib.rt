@@ -1,8 +1,8 @@
-// Document 01, stored input: one place more; a delimiter or an end-of-file mark, and whether it fits.
+// Document 01, stored input: one place more; the end of a line, a delimiter or an end-of-file mark.
 ghost use mathlib.Core.Path.{_≡_};
 ghost use mathlib.Core.List.{[], _∷_};
 ghost use Rattle.rules.specs.Sizes.{delimiter, endOfFile};
-ghost use Rattle.input.specs.Contract.{get, Becomes, Within, Room, Grows, TellsEnd, endedIn};
+ghost use Rattle.input.specs.Contract.{get, Becomes, Room, Grows, endedIn};
 use input::Input;
 
 // one place more, at the end of the current line
@@ -48,13 +48,4 @@ pub fn end_of_file(i: Input, bytes: &mut [u8], marks: &mut [u8]) -> Input
 {
     let longer = add(i, bytes, marks, 0, 7);
     all_ready(longer)
-}
-
-// 'a delimiter or mark fits if at most 1,023 places are used', in n places
-pub fn end_fits(i: Input, n: usize) -> bool
-    requires { ⌜ Within i n ⌝ }
-    ensures { λ r. ⌜ TellsEnd i n r ⌝ }
-{
-    let q = i.queue;
-    q.len < n
 }

@@ -1,17 +1,16 @@
 -- Laws of what a queue holds, and one lemma for each way out of its functions. Assumes nothing.
 use mathlib.Core.Path.{_≡_, refl, sym, ap, _∙_}
-use mathlib.Core.Logic.{_⊎_, ⊎-elim}
 use mathlib.Core.List.{List, [], _∷_, _++_}
 use Prim.Native.Nat.{ℕ, zero, suc, _+_, _-_, _%_, _<_, _≤_, min}
-use native.Mathlib.Nat.{add-zero, zero-add, add-suc, suc-add, add-assoc, mod-add-mod, mod-lt, le-antisymm}
+use native.Mathlib.Nat.{add-zero, zero-add, add-suc, suc-add, mod-add-mod, mod-lt}
 use native.Mathlib.Omega.{arith}
-use lib.ListN.{length, getD, set, take, drop, length-append, length-drop, length-set}
-use lib.Seq.{set-getD, take-all}
+use lib.ListN.{length, getD, set, length-append}
+use lib.Seq.{set-getD}
 use borrow.Author.Tests.{le-leb, lt-leb, lt-ltb, le-ltb}
 use Rattle.queue.specs.Ring.{ring, stores}
-use Rattle.queue.specs.Queue.{held, fitted, laid, appended, changed, Holds, Takes}
+use Rattle.queue.specs.Queue.{held, fitted, laid, appended, changed, Holds}
 use Rattle.queue.specs.declared.Queue.{Queue}
-use Rattle.queue.proofs.Rings.{lt-or-le, ring-length, ring-mod, ring-stores, ring-out, take-ring, drop-ring, stores-length, stores-next}
+use Rattle.queue.proofs.Rings.{ring-length, ring-mod, ring-stores, stores-length}
 
 ---- Stores
 
@@ -71,9 +70,9 @@ laid-again q l = put-same (length l) (min (q .len) (length l)) (q .head) l
 pub laid-fitted : (q : Queue) (l : List ℕ) → fitted (length l) q ≡ laid (q .head % length l) (held q l)
 laid-fitted q l = ap (λ (k : ℕ). record { head = q .head % length l; len = k }) (sym (held-length q l))
 
----- push, push_all
+---- push
 
-appended-fits : (N : ℕ) (c bs : List ℕ) → length c + length bs ≤ N → appended N c bs ≡ c ++ bs
+pub appended-fits : (N : ℕ) (c bs : List ℕ) → length c + length bs ≤ N → appended N c bs ≡ c ++ bs
 appended-fits N c bs le = rw (le-leb (length c + length bs) N le)
 
 appended-full : (N : ℕ) (c bs : List ℕ) → N < length c + length bs → appended N c bs ≡ c
@@ -135,128 +134,6 @@ changed-in q l i b a lt e =
 pub changed-out : (q : Queue) (l : List ℕ) (i b : ℕ) → min (q .len) (length l) ≤ i → l ≡ changed q l i b
 changed-out q l i b le = rw (le-ltb i (min (q .len) (length l)) le)
 
----- take
-
--- the loop that copies the oldest k bytes out, after i of them
-pub record Copied (l d : List ℕ) (n h len k i : ℕ) (d′ : List ℕ) : Type 0 where
-  pub upto : i ≤ k
-  pub moved : d′ ≡ ring n i h l ++ drop i d
-  pub long : length d′ ≡ length d
-  pub all : k ≤ len
-  pub fit : len ≤ n
-  pub room : k ≤ length d
-  pub within : 0 < n → h < n
-  pub size : n ≡ length l
-
-pub begin : (q p : Queue) (l d : List ℕ) (k : ℕ) → p ≡ fitted (length l) q → k ≡ min (p .len) (length d)
-    → Copied l d (length l) (p .head) (p .len) k 0 d
-begin q p l d k e ek =
-    let m : p .len ≡ min (q .len) (length l) = ap (λ (x : Queue). x .len) e in
-    let h : p .head ≡ q .head % length l = ap (λ (x : Queue). x .head) e in
-    record {
-      upto = omega arith;
-      moved = refl;
-      long = refl;
-      all = omega arith;
-      fit = omega arith;
-      room = omega arith;
-      within = λ pos. rw h (mod-lt (q .head) pos);
-      size = refl;
-    }
-
-pub next : (l d : List ℕ) (n h len k i : ℕ) (d′ : List ℕ) (a : ℕ) → Copied l d n h len k i d′ → i < k → a ≡ (h + i) % n
-    → Copied l d n h len k (i + 1) (set d′ i (getD l a 0))
-next l d n h len k i d′ a c lt e =
-    record {
-      upto = omega arith;
-      moved =
-          ap (λ (x : ℕ). set d′ i (getD l x 0)) e
-          ∙ ap (λ (x : List ℕ). set x i (getD l ((h + i) % n) 0)) (c .moved)
-          ∙ ring-out n i h l d (omega (arith, c .room));
-      long = length-set d′ i (getD l a 0) ∙ c .long;
-      all = c .all;
-      fit = c .fit;
-      room = c .room;
-      within = c .within;
-      size = c .size;
-    }
-
-take-ring-min : (N r n h : ℕ) (l : List ℕ) → take r (ring N n h l) ≡ ring N (min n r) h l
-take-ring-min N r n h l =
-    ⊎-elim
-    (λ (w : r < n).
-    let m : min n r ≡ r = omega arith in
-    take-ring N r n h l (omega arith) ∙ ap (λ (k : ℕ). ring N k h l) (sym m))
-    (λ (w : n ≤ r).
-    let m : min n r ≡ n = omega arith in
-    take-all r (ring N n h l) (rw ring-length w) ∙ ap (λ (k : ℕ). ring N k h l) (sym m))
-    (lt-or-le r n)
-
--- without its first r, as a ring that starts later
-drop-ring-min : (N r n h : ℕ) (l : List ℕ) → drop r (ring N n h l) ≡ ring N (n - min n r) (h + min n r) l
-drop-ring-min N r n h l =
-    ⊎-elim
-    (λ (w : r < n).
-    let m : min n r ≡ r = omega arith in
-    drop-ring N r n h l (omega arith) ∙ ap (λ (k : ℕ). ring N (n - k) (h + k) l) (sym m))
-    (λ (w : n ≤ r).
-    let m : min n r ≡ n = omega arith in
-    let z : n - min n r ≡ 0 = omega arith in
-    drop-none r (ring N n h l) (rw ring-length w) ∙ ap (λ (k : ℕ). ring N k (h + min n r) l) (sym z))
-    (lt-or-le r n)
-  where
-    drop-none : (k : ℕ) (m : List ℕ) → length m ≤ k → drop k m ≡ []
-    drop-none zero [] le = refl
-    drop-none zero (x ∷ m) le = absurd (omega arith)
-    drop-none (suc k) [] le = refl
-    drop-none (suc k) (x ∷ m) le = drop-none k m (omega arith)
-
-module _ (q : Queue) (l d d′ : List ℕ) (k a : ℕ) (ek : k ≡ min (min (q .len) (length l)) (length d))
-    (ea : a ≡ (q .head % length l + k) % length l) (ed : d′ ≡ ring (length l) k (q .head % length l) l ++ drop k d) where
-  given : take (length d) (held q l) ≡ ring (length l) k (q .head) l
-  unfolding held
-  given =
-      take-ring-min (length l) (length d) (min (q .len) (length l)) (q .head) l
-      ∙ ap (λ (x : ℕ). ring (length l) x (q .head) l) (sym ek)
-
-  count-given : k ≡ length (take (length d) (held q l))
-  count-given = sym (ap length given ∙ ring-length (length l) k (q .head) l)
-
-  left-length : min (q .len) (length l) - k ≡ length (drop (length d) (held q l))
-  left-length = sym (length-drop (length d) (held q l) ∙ ap (λ (x : ℕ). x - length d) (held-length q l) ∙ lesser)
-    where
-      lesser : min (q .len) (length l) - length d ≡ min (q .len) (length l) - k
-      lesser = omega arith
-
-  pub taken-of : Takes q l d (record { queue = record { head = a; len = min (q .len) (length l) - k }; count = k }) d′
-  taken-of =
-      record {
-        count = count-given;
-        queue =
-            ap (λ (x : ℕ). record { head = a; len = x }) left-length
-            ∙ ap (λ (x : ℕ). record { head = x; len = length (drop (length d) (held q l)) })
-            (ea ∙ mod-add-mod (q .head) (length l) k ∙ ap (λ (x : ℕ). (q .head + x) % length l) count-given);
-        buffer =
-            ed
-            ∙ ap (λ (x : List ℕ). x ++ drop k d) (ring-mod (length l) k (q .head) l ∙ sym given)
-            ∙ ap (λ (n : ℕ). take (length d) (held q l) ++ drop n d) count-given;
-      }
-
--- from the queue in range and the loop's end
-pub end-of : (q p : Queue) (l d d′ : List ℕ) (k a i : ℕ) → p ≡ fitted (length l) q → k ≡ min (p .len) (length d)
-    → a ≡ (p .head + k) % length l → Copied l d (length l) (p .head) (p .len) k i d′ → k ≤ i
-    → Takes q l d (record { queue = record { head = a; len = p .len - k }; count = k }) d′
-end-of q p l d d′ k a i e ek ea c le =
-    let n : ℕ = length l in
-    let end : i ≡ k = le-antisymm (c .upto) le in
-    let em : p .len ≡ min (q .len) n = ap (λ (x : Queue). x .len) e in
-    let eh : p .head ≡ q .head % n = ap (λ (x : Queue). x .head) e in
-    let done = taken-of q l d d′ k a (ek ∙ ap (λ (x : ℕ). min x (length d)) em) (ea ∙ ap (λ (x : ℕ). (x + k) % n) eh)
-    (c .moved ∙ ap (λ (x : ℕ). ring n x (p .head) l ++ drop x d) end ∙ ap (λ (x : ℕ). ring n k x l ++ drop k d) eh) in
-    let same : _≡_ {A = Queue} (record { head = a; len = p .len - k }) (record { head = a; len = min (q .len) n - k }) =
-    ap (λ (x : ℕ). record { head = a; len = x - k }) em in
-    record { count = done .count; queue = same ∙ done .queue; buffer = done .buffer }
-
 ---- The numbers of a queue in range
 
 pub fit-len : (q p : Queue) (n : ℕ) → p ≡ fitted n q → p .len ≡ min (q .len) n
@@ -280,53 +157,6 @@ module _ (q p : Queue) (l : List ℕ) (e : p ≡ fitted (length l) q) where
 
   pub push-full-of : (b : ℕ) → length l ≤ p .len → Holds q l (appended (length l) (held q l) (b ∷ [])) p l
   push-full-of b le = pushed-full q p l (b ∷ []) e (omega (arith, fit-len q p (length l) e))
-
-  pub push-all-full-of : (bs : List ℕ) → length l - p .len < length bs → Holds q l (appended (length l) (held q l) bs) p l
-  push-all-full-of bs lt = pushed-full q p l bs e (omega (arith, fit-len q p (length l) e))
-
--- the loop of push_all, after i bytes
-pub record Pushing (l bs : List ℕ) (n h len i : ℕ) (l′ : List ℕ) : Type 0 where
-  pub upto : i ≤ length bs
-  pub moved : l′ ≡ stores n l (h + len) (take i bs)
-  pub long : length l′ ≡ length l
-  pub size : n ≡ length l
-  pub fit : len + length bs ≤ n
-  pub within : 0 < n → h < n
-
-pub push-begin : (q p : Queue) (l bs : List ℕ) → p ≡ fitted (length l) q → length bs ≤ length l - p .len
-    → Pushing l bs (length l) (p .head) (p .len) 0 l
-push-begin q p l bs e le =
-    record {
-      upto = omega arith;
-      moved = refl;
-      long = refl;
-      size = refl;
-      fit = omega (arith, fit-len q p (length l) e);
-      within = fit-lt q p (length l) e;
-    }
-
-pub push-next : (l bs : List ℕ) (n h len i : ℕ) (l′ : List ℕ) (a : ℕ) → Pushing l bs n h len i l′ → i < length bs
-    → a ≡ (h + (len + i)) % n → Pushing l bs n h len (i + 1) (set l′ a (getD bs i 0))
-push-next l bs n h len i l′ a c lt ea =
-    record {
-      upto = omega arith;
-      moved =
-          ap (λ (x : ℕ). set l′ x (getD bs i 0)) (ea ∙ ap (λ (x : ℕ). x % n) (sym (add-assoc h len i)))
-          ∙ ap (λ (x : List ℕ). set x ((h + len + i) % n) (getD bs i 0)) (c .moved)
-          ∙ sym (stores-next n (h + len) i l bs lt);
-      long = length-set l′ a (getD bs i 0) ∙ c .long;
-      size = c .size;
-      fit = c .fit;
-      within = c .within;
-    }
-
-pub push-end : (q p : Queue) (l bs : List ℕ) (i : ℕ) (l′ : List ℕ) → p ≡ fitted (length l) q → Pushing l bs (length l) (p .head) (p .len) i l′ → length bs ≤ i
-    → Holds q l (appended (length l) (held q l) bs) (record { head = p .head; len = p .len + length bs }) l′
-push-end q p l bs i l′ e c le =
-    let k : p .len ≡ min (q .len) (length l) = fit-len q p (length l) e in
-    let h : p .head ≡ q .head % length l = fit-head q p (length l) e in
-    let m : l′ ≡ stores (length l) l (p .head + p .len) bs = c .moved ∙ ap (stores (length l) l (p .head + p .len)) (take-all i bs le) in
-    rw (h, k) (pushed-fits q l l′ bs (omega (arith, c .fit)) (rw (h, k) at m))
 
 pub drop-oldest-of : (q p : Queue) (n k gone a : ℕ) → p ≡ fitted n q → gone ≡ min k (p .len) → a ≡ (p .head + gone) % n
     → _≡_ {A = Queue} (record { head = a; len = p .len - gone }) (record { head = (q .head + min k (min (q .len) n)) % n; len = min (q .len) n - k })

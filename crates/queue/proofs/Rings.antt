@@ -7,10 +7,9 @@ use borrow.Author.Tests.{ltb-true, ltb-false}
 use mathlib.Core.List.{List, [], _∷_, _++_, append-assoc}
 use Prim.Native.Nat.{ℕ, zero, suc, _+_, _-_, _%_, _<_, _≤_, suc-le-suc}
 use native.Mathlib.Nat.{add-zero, add-suc, suc-add, suc-mod, mod-mod, mod-add-mod, mod-lt, mod-eq-of-lt, mod-eq-sub-mod, le-of-suc-le-suc, not-suc-le-zero, sub-zero, suc-sub-suc}
-use native.Mathlib.Numerals.{add-one}
 use native.Mathlib.Omega.{arith}
 use lib.ListN.{length, getD, set, take, drop, length-set}
-use lib.Seq.{getD-set-same, getD-set-other, take-suc, length-take-le, drop-cons, set-at}
+use lib.Seq.{getD-set-same, getD-set-other}
 use Rattle.queue.specs.Ring.{ring, stores}
 
 pub lt-or-le : (a b : ℕ) → (a < b) ⊎ (b ≤ a)
@@ -107,25 +106,8 @@ drop-ring N zero n h l le = rw (sub-zero, add-zero)
 drop-ring N (suc k) zero h l le = absurd (not-suc-le-zero le)
 drop-ring N (suc k) (suc n) h l le = rw (suc-sub-suc, add-suc, ← suc-add) (drop-ring N k n (suc h) l (le-of-suc-le-suc le))
 
--- a run of stores, one turn of a loop
-pub stores-next : (N i j : ℕ) (l bs : List ℕ) → j < length bs → stores N l i (take (j + 1) bs) ≡ set (stores N l i (take j bs)) ((i + j) % N) (getD bs j 0)
-stores-next N i j l bs lt =
-    rw (add-one, take-suc bs j 0 lt)
-    (stores-snoc N i (getD bs j 0) l (take j bs)
-    ∙ ap (λ (k : ℕ). set (stores N l i (take j bs)) ((i + k) % N) (getD bs j 0)) (length-take-le j bs (omega arith)))
-
 pub stores-same : (N i j : ℕ) (l bs : List ℕ) → i % N ≡ j % N → stores N l i bs ≡ stores N l j bs
 stores-same N i j l [] e = refl
 stores-same N i j l (b ∷ bs) e =
     ap (λ (k : ℕ). stores N (set l k b) (suc i) bs) e
     ∙ stores-same N (suc i) (suc j) (set l (j % N) b) bs (suc-mod i N ∙ ap (λ (x : ℕ). suc x % N) e ∙ sym (suc-mod j N))
-
--- what stands at the ring's next place goes into d: one turn of a loop that copies a ring out
-pub ring-out : (N i h : ℕ) (l d : List ℕ) → i < length d
-    → set (ring N i h l ++ drop i d) i (getD l ((h + i) % N) 0) ≡ ring N (i + 1) h l ++ drop (i + 1) d
-ring-out N i h l d lt =
-    let x : ℕ = getD l ((h + i) % N) 0 in
-    rw (add-one, drop-cons d i 0 lt)
-    (set-at (ring N i h l) (getD d i 0) (drop (suc i) d) x i (ring-length N i h l)
-    ∙ sym (append-assoc (ring N i h l) (x ∷ []) (drop (suc i) d))
-    ∙ ap (λ (t : List ℕ). t ++ drop (suc i) d) (sym (ring-snoc N i h l)))

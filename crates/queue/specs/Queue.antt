@@ -4,11 +4,10 @@ use Prim.Native.Nat.{ℕ, _+_, _-_, _%_, min}
 use mathlib.Core.Path.{_≡_}
 use mathlib.Core.Bool.{cond}
 use mathlib.Core.List.{List, _++_}
-use lib.ListN.{length, set, take, drop}
+use lib.ListN.{length, set}
 use lib.Dec.{leb, ltb}
 use Rattle.queue.specs.Ring.{ring, stores}
 use Rattle.queue.specs.declared.Queue.{Queue}
-use Rattle.queue.specs.declared.Taken.{Taken}
 
 -- Any queue with any slice holds something, oldest first.
 unfoldable pub held : Queue → List ℕ → List ℕ
@@ -34,9 +33,3 @@ changed q l i b = cond (ltb i (min (q .len) (length l))) (set l ((q .head + i) %
 pub record Holds (q : Queue) (l c : List ℕ) (r : Queue) (l′ : List ℕ) : Type 0 where
   pub queue : r ≡ laid (q .head % length l) c
   pub ring : l′ ≡ stores (length l) l (q .head % length l) c
-
--- The oldest k bytes are given; the slice is as it was.
-pub record Takes (q : Queue) (l d : List ℕ) (r : Taken) (d′ : List ℕ) : Type 0 where
-  pub count : r .count ≡ length (take (length d) (held q l))
-  pub queue : r .queue ≡ laid ((q .head + length (take (length d) (held q l))) % length l) (drop (length d) (held q l))
-  pub buffer : d′ ≡ take (length d) (held q l) ++ drop (length (take (length d) (held q l))) d

@@ -4,16 +4,11 @@ ghost use mathlib.Core.Path.{_≡_};
 ghost use mathlib.Core.List.{[], _∷_};
 ghost use Prim.Native.Nat.{_+_, _-_, _<_, _%_, min};
 ghost use lib.ListN.{length, getD};
-ghost use Rattle.queue.specs.Queue.{held, fitted, laid, appended, changed, Holds, Takes};
+ghost use Rattle.queue.specs.Queue.{held, fitted, laid, appended, changed, Holds};
 
 pub struct Queue {
     pub head: usize,
     pub len: usize,
-}
-
-pub struct Taken {
-    pub queue: Queue,
-    pub count: usize,
 }
 
 pub fn least(a: usize, b: usize) -> usize
@@ -95,54 +90,6 @@ impl Queue {
             };
         }
         q
-    }
-
-    // all of the bytes, or none
-    pub fn push_all(self, ring: &mut [u8], bytes: &[u8]) -> Queue
-        ensures { λ r. ⌜ Holds self (now (ring .entry)) (appended (length (now (ring .entry))) (held self (now (ring .entry))) (now (bytes .entry))) r (now (ring .exit)) ⌝ }
-    {
-        let n = ring.len();
-        let q = self.fit(n);
-        let head = q.head;
-        let len = q.len;
-        if n - len < bytes.len() {
-            return q;
-        }
-        let mut i = 0;
-        while i < bytes.len() {
-            let at = wrap(head + (len + i), n);
-            ring[at] = bytes[i];
-            i += 1;
-        }
-        Queue {
-            head: head,
-            len: len + bytes.len(),
-        }
-    }
-
-    // the oldest bytes into dst, as many as it has room for
-    pub fn take(self, ring: &[u8], dst: &mut [u8]) -> Taken
-        ensures { λ r. ⌜ Takes self (now (ring .entry)) (now (dst .entry)) r (now (dst .exit)) ⌝ }
-    {
-        let n = ring.len();
-        let q = self.fit(n);
-        let head = q.head;
-        let len = q.len;
-        let k = least(len, dst.len());
-        let mut i = 0;
-        while i < k {
-            let at = wrap(head + i, n);
-            dst[i] = ring[at];
-            i += 1;
-        }
-        let next = home(q.head + k, n);
-        Taken {
-            queue: Queue {
-                head: next,
-                len: len - k,
-            },
-            count: k,
-        }
     }
 
     // without its k oldest

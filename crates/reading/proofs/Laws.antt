@@ -10,9 +10,10 @@ use lib.ListN.{length, getD, take, drop, length-take, length-drop, length-map, d
 use lib.Seq.{take-all, length-take-le, getD-take, getD-drop, take-take, drop-append-le}
 use lib.Dec.{eqb}
 use Rattle.queue.specs.Ring.{ring}
-use Rattle.queue.specs.Queue.{held, Takes}
+use Rattle.queue.specs.Queue.{held}
+use Rattle.runs.specs.Contract.{Takes}
 use Rattle.queue.specs.declared.Queue.{Queue}
-use Rattle.queue.specs.declared.Taken.{Taken as QueueTaken}
+use Rattle.runs.specs.declared.Taken.{Taken as QueueTaken}
 use Rattle.queue.proofs.Rings.{lt-or-le, ring-mod, drop-ring}
 use Rattle.queue.proofs.Laws.{held-length}
 use Rattle.rules.specs.Sizes.{Place, Input as Ruled, used}

@@ -1,8 +1,6 @@
 // Document 01, 'Reads': what a read takes from the stored input.
-ghost use mathlib.Core.Path.{_≡_};
-ghost use Prim.Native.Nat.{_%_, _/_};
+ghost use Prim.Native.Nat.{_/_};
 ghost use lib.ListN.{length};
-ghost use lib.Dec.{eqb};
 ghost use Rattle.input.specs.Contract.{Within, Sound};
 ghost use Rattle.reading.specs.Contract.{ReadsLine, ReadsBytes, TellsLine, Gives, Given};
 use input::Input;
@@ -19,20 +17,6 @@ struct Line {
     taken: usize,
 }
 
-// of a mark byte: a line ends with its place
-fn ends(m: u8) -> bool
-    ensures { λ r. ⌜ r ≡ eqb (m / 2 % 2) 1 ⌝ }
-{
-    m / 2 % 2 == 1
-}
-
-// of a mark byte: its place is an end-of-file mark
-pub fn is_mark(m: u8) -> bool
-    ensures { λ r. ⌜ r ≡ eqb (m / 4 % 2) 1 ⌝ }
-{
-    m / 4 % 2 == 1
-}
-
 // 'at most the requested bytes of the first finished line, its NL, EOL or EOL2 included'
 fn first_line(i: Input, marks: &[u8], n: usize) -> Line
     requires { ⌜ Within i (length (now marks)) ⌝ }
@@ -44,13 +28,13 @@ fn first_line(i: Input, marks: &[u8], n: usize) -> Line
     let mut k = 0;
     while k < most {
         let m = q.at(marks, k);
-        if is_mark(m) {
+        if marks::is_mark(m) {
             return Line {
                 count: k,
                 taken: k + 1, // a mark is taken and gives no byte
             };
         }
-        if ends(m) {
+        if marks::ends(m) {
             return Line {
                 count: k + 1,
                 taken: k + 1,
@@ -60,7 +44,7 @@ fn first_line(i: Input, marks: &[u8], n: usize) -> Line
     }
     if k < ready {
         let m = q.at(marks, k);
-        if is_mark(m) {
+        if marks::is_mark(m) {
             return Line {
                 count: k,
                 taken: k + 1, // 'Taking the last byte before a mark takes the mark.'
@@ -76,7 +60,7 @@ fn give(i: Input, bytes: &[u8], dst: &mut [u8], count: usize, taken: usize) -> T
     ensures { λ r. ⌜ Given i (now (bytes .entry)) (now (dst .entry)) count taken r (now (dst .exit)) ⌝ }
 {
     let q = i.queue;
-    q.take(bytes, &mut dst[..count]);
+    runs::take(q, bytes, &mut dst[..count]);
     let queue = q.drop_oldest(bytes, taken);
     let input = Input {
         queue: queue,

@@ -18,7 +18,7 @@ use Rattle.output.specs.Contract as output
 use Rattle.port.specs.State.{places, get}
 use Rattle.port.specs.declared.Port.{Port}
 use Rattle.port.specs.declared.Answered.{Answered}
-use Rattle.flushing.specs.Contract.{assembled}
+use Rattle.assembling.specs.Contract.{assembled}
 use Rattle.calling.proofs.Laws.{bytes-long, marks-long}
 use Rattle.reads.specs.Contract.{Reads}
 use Rattle.taking.specs.Contract.{stateOf, Takes}

@@ -29,7 +29,7 @@ fn ordered(
     if p.hung {
         return port::says(taking::with_read(p, i, Waiting::Idle), Outcome::Ok, 0);
     }
-    if waiting::clashes(w, nonblocking, n) {
+    if clashing::clashes(w, nonblocking, n) {
         return port::says(p, Outcome::Refused(Refusal::ReadWaits), 0);
     }
     if n == 0 {

@@ -9,8 +9,8 @@ use Rattle.rules.specs.Sizes.{Sizes, State, withWaiting}
 use Rattle.rules.specs.Flushing as flushing
 use Rattle.rules.specs.Received as steps
 use Rattle.port.specs.declared.Port.{Port}
-use Rattle.flushing.specs.Contract.{state, Ready, Becomes, Turns, assembled}
-use Rattle.flushing.proofs.Laws.{as-assembled, input-stays, output-stays}
+use Rattle.assembling.specs.Contract.{state, Ready, Becomes, Turns, assembled}
+use Rattle.assembling.proofs.Laws.{as-assembled, input-stays, output-stays}
 use Rattle.goodbyte.specs.Contract.{Answers}
 use Rattle.goodbyte.specs.declared.Reported.{Reported}
 use Rattle.arrival.specs.Arrival.{arrivalOf, carried}

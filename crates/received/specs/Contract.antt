@@ -7,7 +7,7 @@ use lib.ListN.{length}
 use Rattle.rules.specs.declared.Outcome.{Outcome}
 use Rattle.rules.specs.Sizes.{State}
 use Rattle.port.specs.declared.Port.{Port}
-use Rattle.flushing.specs.Contract.{state}
+use Rattle.assembling.specs.Contract.{state}
 use Rattle.goodbyte.specs.Contract.{Answers}
 use Rattle.goodbyte.specs.declared.Reported.{Reported}
 

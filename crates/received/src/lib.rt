@@ -3,7 +3,7 @@ ghost use mathlib.Core.Path.{_≡_};
 ghost use lib.ListN.{length};
 ghost use Rattle.rules.specs.Flushing as flushing;
 ghost use Rattle.rules.specs.Received as steps;
-ghost use Rattle.flushing.specs.Contract.{Ranged, Ready, assembled, state, sizesOf};
+ghost use Rattle.assembling.specs.Contract.{Ranged, Ready, assembled, state, sizesOf};
 ghost use Rattle.goodbyte.specs.Contract.{Answers};
 ghost use Rattle.received.specs.Contract.{Announces, hungUp};
 use arrival::Arrival;
@@ -51,7 +51,7 @@ fn ticks(p: Port) -> Port
     let output = p.output;
     let old = p.waiting;
     let w = timer::lowered(old);
-    flushing::assemble(p, input, output, w)
+    assembling::assemble(p, input, output, w)
 }
 
 fn hung_up(p: Port) -> Port

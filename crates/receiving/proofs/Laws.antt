@@ -12,7 +12,7 @@ use Rattle.rules.specs.Step.{bytesIn}
 use Rattle.port.specs.State.{places, sizes, get}
 use Rattle.port.specs.declared.Port.{Port}
 use Rattle.port.specs.declared.Answered.{Answered}
-use Rattle.flushing.specs.Contract.{state, sizesOf, Becomes}
+use Rattle.assembling.specs.Contract.{state, sizesOf, Becomes}
 use Rattle.goodbyte.specs.Contract.{Answers}
 use Rattle.goodbyte.specs.declared.Reported.{Reported}
 use Rattle.calling.proofs.Laws.{bytes-long, leaves-of, there, here}

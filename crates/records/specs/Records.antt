@@ -2,10 +2,10 @@
 use Prim.Native.Nat.{ℕ}
 use mathlib.Core.Path.{_≡_}
 use mathlib.Core.List.{List, []}
-use lib.ListN.{length, getD, replicate}
+use lib.ListN.{length, replicate}
 use Rattle.rules.specs.declared.Call.{Call}
 use Rattle.rules.specs.declared.Call.the-variants.{Set, Receive, Read, Write, Transmit, Flush, Cancel, Foreground, ReadVerdict, WriteVerdict, SettingsVerdict}
-use Rattle.rules.specs.Trace.{wellFormed, malformed, asks, two, four, decode}
+use Rattle.rules.specs.Trace.{wellFormed, malformed, asks, decode}
 use Rattle.rules.specs.Trace as trace
 use Rattle.records.specs.declared.Decoded.{Decoded}
 use Rattle.records.specs.declared.Decoded.the-variants.{WellFormed, Malformed}
@@ -37,11 +37,3 @@ told malformed = Malformed
 pub record Decodes (kind : ℕ) (body : List ℕ) (r : Decoded) : Type 0 where
   pub tells : r ≡ told (decode kind body)
   pub means : meant r body ≡ decode kind body
-
--- Below: the numbers at the front of a body.
-
-abbrev pub count : List ℕ → ℕ
-count body = two (getD body 0 0) (getD body 1 0)
-
-abbrev pub number : List ℕ → ℕ
-number body = four (getD body 0 0) (getD body 1 0) (getD body 2 0) (getD body 3 0)

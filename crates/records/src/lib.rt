@@ -5,8 +5,9 @@ ghost use mathlib.Core.Bool.{cond};
 ghost use lib.ListN.{length};
 ghost use Prim.Native.Nat.{_<_};
 ghost use lib.Dec.{eqb};
-ghost use Rattle.rules.specs.Trace.{«two», «four», asks, malformed, settingsRecord, readRecord, writeRecord, transmitRecord, flushRecord, foregroundRecord};
-ghost use Rattle.records.specs.Records.{told, count, number, Decodes};
+ghost use Rattle.rules.specs.Trace.{asks, malformed, settingsRecord, readRecord, writeRecord, transmitRecord, flushRecord, foregroundRecord};
+ghost use Rattle.bodies.specs.Bodies.{count};
+ghost use Rattle.records.specs.Records.{told, Decodes};
 use rules::Call;
 use rules::Event;
 
@@ -17,38 +18,6 @@ pub enum Decoded {
     Malformed,
 }
 
-// A 2-byte number, 'little-endian'.
-pub fn two(a: u8, b: u8) -> usize
-    ensures { λ r. ⌜ r ≡ «two» a b ⌝ }
-    ensures { λ r. ⌜ r < 65536 ⌝ }
-{
-    a as usize + 256 * (b as usize)
-}
-
-// The 2-byte number at the front of a body.
-fn count_of(body: &[u8]) -> usize
-    ensures { λ r. ⌜ r ≡ count (now (body .entry)) ⌝ }
-{
-    two(settings::value(body, 0), settings::value(body, 1))
-}
-
-fn four(a: u8, b: u8, c: u8, d: u8) -> u32
-    ensures { λ r. ⌜ r ≡ «four» a b c d ⌝ }
-{
-    a as u32 + 256 * (b as u32) + 65536 * (c as u32 + 256 * (d as u32))
-}
-
-// The 4-byte number at the front of a body.
-fn number_of(body: &[u8]) -> u32
-    ensures { λ r. ⌜ r ≡ number (now (body .entry)) ⌝ }
-{
-    let a = settings::value(body, 0);
-    let b = settings::value(body, 1);
-    let c = settings::value(body, 2);
-    let d = settings::value(body, 3);
-    four(a, b, c, d)
-}
-
 // '1 settings (4 flag bytes, 15 values)'
 fn settings_record(body: &[u8]) -> Decoded
     ensures { λ r. ⌜ r ≡ told (settingsRecord (now (body .entry))) ⌝ }
@@ -56,8 +25,8 @@ fn settings_record(body: &[u8]) -> Decoded
     if body.len() != 19 {
         return Decoded::Malformed;
     }
-    let flags = number_of(body);
-    let x = settings::settings_of(flags, &body[4..]);
+    let flags = bodies::number_of(body);
+    let x = settings::recorded(flags, &body[4..]);
     Decoded::WellFormed {
         call: Call::Set(x),
         lent: 0,
@@ -81,8 +50,8 @@ fn sized_record(body: &[u8], n: usize, call: Call) -> Decoded
 fn read_record(body: &[u8]) -> Decoded
     ensures { λ r. ⌜ r ≡ told (readRecord (now (body .entry))) ⌝ }
 {
-    let n = count_of(body);
-    let flag = settings::value(body, 2);
+    let n = bodies::count_of(body);
+    let flag = bodies::value(body, 2);
     if body.len() != 3 {
         return Decoded::Malformed;
     }
@@ -117,7 +86,7 @@ fn write_record(body: &[u8]) -> Decoded
 fn transmit_record(body: &[u8]) -> Decoded
     ensures { λ r. ⌜ r ≡ told (transmitRecord (now (body .entry))) ⌝ }
 {
-    let n = count_of(body);
+    let n = bodies::count_of(body);
     if body.len() != 2 {
         return Decoded::Malformed;
     }
@@ -134,7 +103,7 @@ fn transmit_record(body: &[u8]) -> Decoded
 fn flush_record(body: &[u8]) -> Decoded
     ensures { λ r. ⌜ r ≡ told (flushRecord (now (body .entry))) ⌝ }
 {
-    let choice = settings::value(body, 0);
+    let choice = bodies::value(body, 0);
     if body.len() != 1 {
         return Decoded::Malformed;
     }
@@ -154,8 +123,8 @@ fn flush_record(body: &[u8]) -> Decoded
 fn foreground_record(body: &[u8]) -> Decoded
     ensures { λ r. ⌜ r ≡ told (foregroundRecord (now (body .entry))) ⌝ }
 {
-    let group = number_of(body);
-    let orphaned = settings::value(body, 4);
+    let group = bodies::number_of(body);
+    let orphaned = bodies::value(body, 4);
     if body.len() != 5 {
         return Decoded::Malformed;
     }
@@ -178,7 +147,7 @@ fn foreground_record(body: &[u8]) -> Decoded
 pub fn decode(kind: usize, body: &[u8]) -> Decoded
     ensures { λ r. ⌜ Decodes kind (now (body .entry)) r ⌝ }
 {
-    let b = settings::value(body, 0);
+    let b = bodies::value(body, 0);
     match kind {
         1 => settings_record(body),
         2 => sized_record(body, 1, Call::Receive(Event::Good(b))),

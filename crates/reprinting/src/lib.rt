@@ -18,7 +18,8 @@ fn measured(m: Measure, x: Settings, i: Input, bytes: &[u8], marks: &[u8], k: us
     ensures { λ r. ⌜ ExtendsBy x m (placeEcho x i (now (bytes .entry)) (now (marks .entry)) k) r ⌝ }
 {
     if editing::is_shown(i, marks, k) {
-        let b = editing::byte_at(i, bytes, k);
+        let q = i.queue;
+        let b = q.at(bytes, k);
         return echo::measured(m, x, b);
     }
     m
@@ -56,8 +57,9 @@ fn shown(
     ensures { λ r. ⌜ Echoes x o (now (out .entry)) (placeEcho x i (now (bytes .entry)) (now (marks .entry)) k) r (now (out .exit)) ⌝ }
 {
     if editing::is_shown(i, marks, k) {
-        let b = editing::byte_at(i, bytes, k);
-        return echo::show(o, x, out, b);
+        let q = i.queue;
+        let again = q.at(bytes, k);
+        return echo::show(o, x, out, again);
     }
     o.fit(out.len())
 }

@@ -1,4 +1,4 @@
-// Document 01, 'Settings': the settings that flags and values mean, and the defaults.
+// Document 01, 'Settings': the defaults, and the settings of a record.
 ghost use mathlib.Core.Path.{_≡_};
 ghost use Prim.Native.Nat.{ℕ, _<_};
 ghost use lib.ListN.{getD};
@@ -12,16 +12,6 @@ pub const DEFAULTS: [u8; 15] = [4, 255, 255, 127, 23, 21, 18, 3, 28, 26, 17, 19,
 // BRKINT ICRNL IXON IMAXBEL OPOST ONLCR ECHO ECHOE ECHOKE ECHOCTL ISIG ICANON IEXTEN.
 pub const DEFAULT_FLAGS: u32 = 783301378;
 
-// The byte at place i of what a record holds, 0 beyond the end.
-pub fn value(values: &[u8], i: usize) -> u8
-    ensures { λ r. ⌜ r ≡ getD (now (values .entry)) i 0 ⌝ }
-{
-    if i < values.len() {
-        return values[i];
-    }
-    0
-}
-
 // The 15 values in the table's order, each in its default's place.
 fn in_places(values: &[u8]) -> [u8; 15]
     ensures { λ r. ⌜ ((i : ℕ) → i < 15 → getD r i 0 ≡ getD (now (values .entry)) i 0) ⌝ }
@@ -29,71 +19,22 @@ fn in_places(values: &[u8]) -> [u8; 15]
     let mut v = DEFAULTS;
     let mut i = 0;
     while i < 15 {
-        v[i] = value(values, i);
+        v[i] = bodies::value(values, i);
         i += 1;
     }
     v
 }
 
-// The settings that 32 flags and 15 values mean.
-pub fn settings_of(flags: u32, values: &[u8]) -> Settings
+// The settings that a record's 32 flags and 15 values mean.
+pub fn recorded(flags: u32, values: &[u8]) -> Settings
     ensures { λ r. ⌜ r ≡ settingsOf (bitOf flags) (now (values .entry)) ⌝ }
 {
-    let v = in_places(values);
-    Settings {
-        ignbrk: flags / 1 % 2 == 1,
-        brkint: flags / 2 % 2 == 1,
-        ignpar: flags / 4 % 2 == 1,
-        parmrk: flags / 8 % 2 == 1,
-        inpck: flags / 16 % 2 == 1,
-        istrip: flags / 32 % 2 == 1,
-        inlcr: flags / 64 % 2 == 1,
-        igncr: flags / 128 % 2 == 1,
-        icrnl: flags / 256 % 2 == 1,
-        ixon: flags / 512 % 2 == 1,
-        ixany: flags / 1024 % 2 == 1,
-        imaxbel: flags / 2048 % 2 == 1,
-        opost: flags / 4096 % 2 == 1,
-        onlcr: flags / 8192 % 2 == 1,
-        ocrnl: flags / 16384 % 2 == 1,
-        tab3: flags / 32768 % 2 == 1,
-        onoeot: flags / 65536 % 2 == 1,
-        onocr: flags / 131072 % 2 == 1,
-        onlret: flags / 262144 % 2 == 1,
-        clocal: flags / 524288 % 2 == 1,
-        echo: flags / 1048576 % 2 == 1,
-        echoe: flags / 2097152 % 2 == 1,
-        echok: flags / 4194304 % 2 == 1,
-        echoke: flags / 8388608 % 2 == 1,
-        echonl: flags / 16777216 % 2 == 1,
-        echoctl: flags / 33554432 % 2 == 1,
-        isig: flags / 67108864 % 2 == 1,
-        icanon: flags / 134217728 % 2 == 1,
-        altwerase: flags / 268435456 % 2 == 1,
-        iexten: flags / 536870912 % 2 == 1,
-        tostop: flags / 1073741824 % 2 == 1,
-        noflsh: flags / 2147483648 % 2 == 1,
-        eof: v[0],
-        eol: v[1],
-        eol2: v[2],
-        erase: v[3],
-        werase: v[4],
-        kill: v[5],
-        reprint: v[6],
-        intr: v[7],
-        quit: v[8],
-        susp: v[9],
-        start: v[10],
-        stop: v[11],
-        lnext: v[12],
-        min: v[13],
-        time: v[14],
-    }
+    flags::settings_of(flags, in_places(values))
 }
 
 // The settings of a fresh port.
 pub fn defaults() -> Settings
     ensures { λ r. ⌜ r ≡ «defaults» ⌝ }
 {
-    settings_of(DEFAULT_FLAGS, &DEFAULTS)
+    flags::settings_of(DEFAULT_FLAGS, DEFAULTS)
 }

@@ -17,7 +17,7 @@ pub fn of_stored(o: Output, x: Settings, out: &mut [u8], b: u8) -> Output
     }
     if shows_newline(x, b) {
         let e = [10u8];
-        return o.show(x, out, &e);
+        return queuing::show(o, x, out, &e);
     }
     o.fit(out.len())
 }
@@ -40,7 +40,7 @@ pub fn of_erased(o: Output, x: Settings, out: &mut [u8], b: u8, n: usize) -> Out
 {
     if x.echo {
         if x.echoe {
-            return o.rub_out(x, out, n);
+            return queuing::rub_out(o, x, out, n);
         }
         return echo::show(o, x, out, b);
     }
@@ -53,7 +53,7 @@ pub fn of_killed(o: Output, x: Settings, out: &mut [u8], b: u8, n: usize) -> Out
 {
     if x.echo {
         if x.echoke {
-            return o.rub_out(x, out, n);
+            return queuing::rub_out(o, x, out, n);
         }
         if x.echok {
             return echo::show_line(o, x, out, b);

@@ -6,7 +6,7 @@ use Prim.Native.Nat.{ℕ, _%_}
 use native.Mathlib.Nat.{mod-mod}
 use native.Mathlib.Omega.{arith}
 use lib.ListN.{length}
-use Rattle.rules.specs.Sizes.{State, Output as RuledOutput, withInput, withLiteralNext, withStopped}
+use Rattle.rules.specs.Sizes.{State, Output as RuledOutput}
 use Rattle.rules.specs.Flushing as flushing
 use Rattle.rules.specs.Echo.{shown, echoOf}
 use Rattle.rules.specs.Received as steps
@@ -18,9 +18,9 @@ use Rattle.echo.specs.Contract.{Echoes}
 use Rattle.port.specs.State.{withOutput}
 use Rattle.port.specs.Contract.{flushed}
 use Rattle.port.specs.declared.Port.{Port}
-use Rattle.flushing.specs.Contract.{state, sizesOf, Ranged, Ready, Becomes, Turns, assembled}
-use Rattle.flushing.proofs.Laws.{as-state, as-assembled, input-stays, output-stays, stays, then-shown}
-use Rattle.signalling.specs.Contract.{literalTo, stopTo}
+use Rattle.assembling.specs.Contract.{state, sizesOf, Ranged, Ready, Becomes, Turns}
+use Rattle.assembling.proofs.Laws.{as-state, as-assembled, stays}
+use Rattle.flushing.proofs.Laws.{then-shown}
 
 pub ready-for : (p : Port) (n : ℕ) (bs ms os : List ℕ) → Ranged p n (length os) → length bs ≡ n → length ms ≡ n → Ready p bs ms os
 ready-for p n bs ms os g eb em = record { same = eb ∙ sym em; ranged = rw eb g }
@@ -74,44 +74,3 @@ module _ (p : Port) (n : ℕ) (os : List ℕ) where
           → Becomes p bs ms os (shown (sizesOf p n (length os)) (steps.flushedUnless kept s) e) r bs ms os′
       by true c = then-shown p q r bs ms os os′ e s o n c (get-room (p .output) os) k er
       by false c = then-shown p q r bs ms os os′ e (flushing.flushBoth s) o n c (omega arith) k er
-
----- 'Literal next', and stopped output
-
-module _ (p : Port) (bs ms os : List ℕ) (g : Ready p bs ms os) where
-  literal-becomes : (l : Bool) → input.Becomes (p .input) bs ms (withLiteralNext (input.get (p .input) bs ms) l) (literalTo l (p .input)) bs ms
-  literal-becomes l =
-      let b = input-stays (p .input) bs ms (g .same) (g .ranged .input) in
-      record { input = ap (literalTo l) (b .input); bytes = b .bytes; marks = b .marks }
-
-  stop-becomes : (t : Bool) → output.Becomes (p .output) os (withStopped (output.get (p .output) os) t) (stopTo t (p .output)) os
-  stop-becomes t =
-      let b = output-stays (p .output) os (g .ranged .output) in
-      record { output = ap (stopTo t) (b .output); slice = b .slice }
-
-  pub literal-of : (r : Port) (l : Bool) → r ≡ assembled p (literalTo l (p .input)) (p .output) (p .waiting)
-      → Becomes p bs ms os (withInput (state p bs ms os) (withLiteralNext (input.get (p .input) bs ms) l)) r bs ms os
-  literal-of r l er =
-      as-assembled p (assembled p (literalTo l (p .input)) (p .output) (p .waiting)) r bs ms os bs ms os
-      (withInput (state p bs ms os) (withLiteralNext (input.get (p .input) bs ms) l)) er
-      (record {
-        input = literal-becomes l;
-        output = output-stays (p .output) os (g .ranged .output);
-        settings = refl;
-        line = refl;
-        foreground = refl;
-        hung = refl;
-        waiting = refl;
-      })
-
-  pub stopped-of : (r : Port) (t : Bool) → r ≡ withOutput p (stopTo t (p .output)) → Becomes p bs ms os (steps.stoppedTo t (state p bs ms os)) r bs ms os
-  stopped-of r t er =
-      as-assembled p (withOutput p (stopTo t (p .output))) r bs ms os bs ms os (steps.stoppedTo t (state p bs ms os)) er
-      (record {
-        input = input-stays (p .input) bs ms (g .same) (g .ranged .input);
-        output = stop-becomes t;
-        settings = refl;
-        line = refl;
-        foreground = refl;
-        hung = refl;
-        waiting = refl;
-      })

@@ -1,13 +1,9 @@
-// Document 01, 'Received events': what a signal does, stopped output, 'literal next', on a port whose numbers are in range.
-ghost use mathlib.Core.Path.{_≡_};
-ghost use mathlib.Core.Bool.{true};
+// Document 01, 'Received events': what a signal does, on a port whose numbers are in range.
 ghost use lib.ListN.{length};
 ghost use Rattle.rules.specs.Flushing as flushing;
 ghost use Rattle.rules.specs.Echo as echo;
 ghost use Rattle.rules.specs.Received as steps;
-ghost use Rattle.port.specs.State.{withOutput};
-ghost use Rattle.flushing.specs.Contract.{Turns, Ranged, assembled};
-ghost use Rattle.signalling.specs.Contract.{literalTo, stopTo};
+ghost use Rattle.assembling.specs.Contract.{Turns, Ranged};
 use port::Port;
 
 // 'Flushing input drops .. . Flushing output empties its queue; column and "stopped" stay.'
@@ -40,22 +36,4 @@ pub fn signals(p: Port, n: usize, out: &mut [u8], b: u8) -> Port
     let o = q.output;
     let output = echo::of_byte(o, x, out, b);
     q.with_output(output)
-}
-
-pub fn stopped_to(p: Port, stopped: bool) -> Port
-    ensures { λ r. ⌜ r ≡ withOutput p (stopTo stopped (p .output)) ⌝ }
-{
-    let o = p.output;
-    let output = o.stop(stopped);
-    p.with_output(output)
-}
-
-pub fn sets_literal(p: Port) -> Port
-    ensures { λ r. ⌜ r ≡ assembled p (literalTo true (p .input)) (p .output) (p .waiting) ⌝ }
-{
-    let i = p.input;
-    let input = i.with_literal(true);
-    let output = p.output;
-    let waiting = p.waiting;
-    flushing::assemble(p, input, output, waiting)
 }

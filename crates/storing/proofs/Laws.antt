@@ -1,18 +1,16 @@
 -- One lemma for each way out of the functions that store. Assumes nothing.
-use mathlib.Core.Path.{_≡_, refl, sym, ap, subst, _∙_}
-use mathlib.Core.Bool.{Bool, true, false, not, _&&_, cond, false≢true}
-use mathlib.Core.List.{List, [], _∷_}
+use mathlib.Core.Path.{_≡_, refl, sym, ap, _∙_}
+use mathlib.Core.Bool.{Bool, true, false, _&&_, false≢true}
+use mathlib.Core.List.{List, []}
 use Prim.Native.Nat.{ℕ, _+_, _≤_}
 use native.Mathlib.Omega.{arith}
 use lib.ListN.{length}
-use lib.Dec.{leb, ltb, eqb}
+use lib.Dec.{leb, ltb}
 use borrow.Author.Tests.{leb-true, ltb-true}
-use Rattle.rules.specs.declared.Settings.{Settings}
 use Rattle.rules.specs.declared.Waiting.{Waiting}
 use Rattle.rules.specs.Sizes.{Sizes, State, Place, used, unit}
 use Rattle.rules.specs.Flushing as flushing
 use Rattle.rules.specs.Fit as fit
-use Rattle.rules.specs.Received as steps
 use Rattle.rules.specs.Echo.{shown}
 use Rattle.input.specs.Contract as input
 use Rattle.input.specs.declared.Input.{Input}
@@ -22,8 +20,8 @@ use Rattle.output.specs.declared.Output.{Output}
 use Rattle.echo.specs.Contract.{Echoes}
 use Rattle.echo.proofs.Laws.{shows-none}
 use Rattle.port.specs.declared.Port.{Port}
-use Rattle.flushing.specs.Contract.{state, sizesOf, Ready, Becomes, Turns, assembled}
-use Rattle.flushing.proofs.Laws.{as-state, as-assembled}
+use Rattle.assembling.specs.Contract.{state, sizesOf, Ready, Becomes, Turns, assembled}
+use Rattle.assembling.proofs.Laws.{as-state, as-assembled}
 
 and-right : (a b : Bool) → (a && b) ≡ true → b ≡ true
 and-right true b e = e
@@ -125,17 +123,3 @@ module _ (p : Port) (bs ms os : List ℕ) (g : Ready p bs ms os) where
   unseen = shows-none (p .settings) (p .output) (p .output) os (g .ranged .output)
 
 ---- The unit of a byte: 'A 255 with PARMRK set, IGNPAR and ISTRIP clear is stored twice'
-
-abbrev shape : Bool → Bool → Bool → List Place
-shape marked ignored stripped = unit false 255 (cond (marked && not ignored && not stripped) (255 ∷ []) [])
-
-pub unit-255 : (x : Settings) (b : ℕ) (marked ignored stripped : Bool) → b ≡ 255 → x .parmrk ≡ marked → x .ignpar ≡ ignored → x .istrip ≡ stripped
-    → shape marked ignored stripped ≡ unit false b (steps.doubled x b)
-unit-255 x b marked ignored stripped e em ei es =
-    subst (λ (y : ℕ). shape marked ignored stripped ≡ unit false y (steps.doubled x y)) (sym e)
-    (ap (λ (y : Bool). shape y ignored stripped) (sym em) ∙ ap (λ (y : Bool). shape (x .parmrk) y stripped) (sym ei)
-    ∙ ap (λ (y : Bool). shape (x .parmrk) (x .ignpar) y) (sym es))
-
-pub unit-plain : (x : Settings) (b : ℕ) → eqb b 255 ≡ false → unit false b [] ≡ unit false b (steps.doubled x b)
-unit-plain x b e =
-    ap (λ (y : Bool). unit false b (cond (y && x .parmrk && not (x .ignpar) && not (x .istrip)) (255 ∷ []) [])) (sym e)

@@ -1,5 +1,4 @@
 // Document 01, 'Received events': a unit that fits is stored, with its echo; one that does not overflows.
-ghost use mathlib.Core.Path.{_≡_};
 ghost use mathlib.Core.List.{[]};
 ghost use lib.ListN.{length};
 ghost use Rattle.rules.specs.Fit as fit;
@@ -8,10 +7,9 @@ ghost use Rattle.rules.specs.Sizes.{unit};
 ghost use Rattle.rules.specs.Echo as echo;
 ghost use Rattle.rules.specs.Received as steps;
 ghost use Rattle.input.specs.Contract.{unitOf};
-ghost use Rattle.flushing.specs.Contract.{Becomes, Ready, state, sizesOf};
+ghost use Rattle.assembling.specs.Contract.{Becomes, Ready, state, sizesOf};
 use input::Unit;
 use port::Port;
-use rules::Settings;
 
 // A unit stored by a break, a parity or a framing error: 'literal', 'no echo'.
 pub fn silently(p: Port, bytes: &mut [u8], marks: &mut [u8], out: &mut [u8], u: Unit) -> Port
@@ -21,32 +19,13 @@ pub fn silently(p: Port, bytes: &mut [u8], marks: &mut [u8], out: &mut [u8], u: 
     let x = p.settings;
     let i = p.input;
     let n = bytes.len();
-    let k = units::size(u);
-    if units::unit_fits(i, n, p.line, x.icanon, k) {
+    let k = fitting::size(u);
+    if fitting::unit_fits(i, n, p.line, x.icanon, k) {
         let input = units::store(i, bytes, marks, x.icanon, u);
         let output = p.output;
         return flushing::stored(p, input, output);
     }
     flushing::overflow(p, n, out)
-}
-
-// 'A 255 with PARMRK set, IGNPAR and ISTRIP clear is stored twice.'
-fn unit_of(x: Settings, b: u8) -> Unit
-    ensures { λ r. ⌜ unitOf r ≡ unit false b (steps.doubled x b) ⌝ }
-{
-    if b == 255 {
-        if x.parmrk {
-            if x.ignpar {
-                return Unit::Plain(255);
-            }
-            if x.istrip {
-                return Unit::Plain(255);
-            }
-            return Unit::Doubled;
-        }
-        return Unit::Plain(255);
-    }
-    Unit::Plain(b)
 }
 
 // 9. 'Store', and the echo of the byte
@@ -57,9 +36,9 @@ pub fn stores(p: Port, bytes: &mut [u8], marks: &mut [u8], out: &mut [u8], b: u8
     let x = p.settings;
     let i = p.input;
     let n = bytes.len();
-    let u = unit_of(x, b);
-    let k = units::size(u);
-    if units::unit_fits(i, n, p.line, x.icanon, k) {
+    let u = fitting::unit_of(x, b);
+    let k = fitting::size(u);
+    if fitting::unit_fits(i, n, p.line, x.icanon, k) {
         let input = units::store(i, bytes, marks, x.icanon, u);
         let o = p.output;
         let output = showing::of_stored(o, x, out, b);

@@ -14,7 +14,7 @@ use Rattle.rules.specs.Sizes.{Sizes, State}
 use Rattle.rules.specs.Trace.{cutLine, fullLine, traceFrom}
 use Rattle.rules.proofs.OutputLaws.{append-nil}
 use Rattle.port.specs.State.{sizes, get}
-use Rattle.lines.specs.Lines.{Prints}
+use Rattle.texts.specs.Puts.{Prints}
 use Rattle.gathering.specs.Contract.{sizeOf, isOpen, come, pending}
 use Rattle.stream.specs.Contract.{future, left}
 use Rattle.stream.specs.declared.Stream.{Stream}

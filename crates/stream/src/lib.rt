@@ -1,7 +1,7 @@
 // Document 01, 'The trace program': where its stream of records stands, and what is printed at its end.
 ghost use mathlib.Core.Path.{_≡_};
 ghost use lib.ListN.{length};
-ghost use Rattle.lines.specs.Lines.{Prints};
+ghost use Rattle.texts.specs.Puts.{Prints};
 ghost use Rattle.stream.specs.Contract.{beginning, left};
 use port::Port;
 
@@ -44,9 +44,9 @@ fn last(g: Stream, kept: &[u8], line: &mut [u8]) -> usize
         return 0;
     }
     if g.index >= 65535 { // 'one more, even cut, prints its index and `full`'
-        return lines::put_full(line, g.index);
+        return lastlines::put_full(line, g.index);
     }
-    lines::put_cut(line, g.index)
+    lastlines::put_cut(line, g.index)
 }
 
 // the input is at its end: 'A cut last record prints its index and `cut`.' The second clause says what the type of kept says.

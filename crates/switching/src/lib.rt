@@ -17,7 +17,7 @@ pub fn without_marks(i: Input, bytes: &mut [u8], marks: &mut [u8]) -> Input
     let mut kept = 0;
     while k < len {
         let m = q.at(marks, k);
-        if !reading::is_mark(m) {
+        if !marks::is_mark(m) {
             let b = q.at(bytes, k);
             q.change(bytes, kept, b);
             q.change(marks, kept, m % 16);

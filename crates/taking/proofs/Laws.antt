@@ -25,8 +25,8 @@ use Rattle.port.specs.State.{get}
 use Rattle.port.specs.Contract.{refused}
 use Rattle.port.specs.declared.Port.{Port}
 use Rattle.port.specs.declared.Answered.{Answered}
-use Rattle.flushing.specs.Contract.{assembled}
-use Rattle.flushing.proofs.Laws.{input-stays}
+use Rattle.assembling.specs.Contract.{assembled}
+use Rattle.assembling.proofs.Laws.{input-stays}
 use Rattle.taking.specs.Contract.{stateOf, took, Takes, finds}
 
 -- the answer by another name

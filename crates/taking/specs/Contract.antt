@@ -17,7 +17,7 @@ use Rattle.reading.specs.Contract.{gone}
 use Rattle.port.specs.Contract.{refused}
 use Rattle.port.specs.declared.Port.{Port}
 use Rattle.port.specs.declared.Answered.{Answered}
-use Rattle.flushing.specs.Contract.{assembled}
+use Rattle.assembling.specs.Contract.{assembled}
 
 -- the port with the input i as a state; a read does not look at the output
 abbrev pub stateOf : Port → Input → List ℕ → List ℕ → State

@@ -3,7 +3,7 @@ ghost use mathlib.Core.Path.{_≡_};
 ghost use lib.ListN.{length};
 ghost use Rattle.rules.specs.Reads as rule;
 ghost use Rattle.input.specs.Contract.{get, Sound};
-ghost use Rattle.flushing.specs.Contract.{assembled};
+ghost use Rattle.assembling.specs.Contract.{assembled};
 ghost use Rattle.taking.specs.Contract.{Takes, stateOf, finds};
 use input::Input;
 use port::Answered;
@@ -18,7 +18,7 @@ pub fn with_read(p: Port, input: Input, waiting: Waiting) -> Port
     ensures { λ r. ⌜ r ≡ assembled p input (p .output) waiting ⌝ }
 {
     let output = p.output;
-    flushing::assemble(p, input, output, waiting)
+    assembling::assemble(p, input, output, waiting)
 }
 
 // A read of n bytes finds what it asks for where so many places are finished.

@@ -10,7 +10,7 @@ use lib.ListN.{length, getD, set, take, length-append}
 use lib.Seq.{sets, length-sets, set-out, take-suc}
 use lib.Dec.{leb}
 use borrow.Author.Tests.{leb-true, leb-false, lt-ltb, le-ltb}
-use Rattle.rules.specs.Trace.{digits, hex, hexDigit, hexOrDash}
+use Rattle.rules.specs.Trace.{digits}
 use Rattle.texts.specs.Puts.{Puts}
 
 sets-append : (l : List ℕ) (i : ℕ) (a b : List ℕ) → sets l i (a ++ b) ≡ sets (sets l i a) (i + length a) b
@@ -84,23 +84,5 @@ digits-more zero n h le = absurd (h refl)
 digits-more (suc k) n h le =
     let e : suc k - 1 ≡ k = omega arith in
     rw (le-ltb n 10 le, e)
-
--- bytes
-hex-snoc : (bs : List ℕ) (b : ℕ) → hex (bs ++ (b ∷ [])) ≡ hex bs ++ (hexDigit (b / 16) ∷ hexDigit (b % 16) ∷ [])
-hex-snoc [] b = refl
-hex-snoc (c ∷ bs) b = ap (λ (t : List ℕ). hexDigit (c / 16) ∷ hexDigit (c % 16) ∷ t) (hex-snoc bs b)
-
-pub hex-next : {l m k o : List ℕ} {i p q s : ℕ} (bs : List ℕ) (j : ℕ) → j < length bs → Puts l i (hex (take j bs)) p m
-    → Puts m p (hexDigit (getD bs j 0 / 16) ∷ []) q k → Puts k q (hexDigit (getD bs j 0 % 16) ∷ []) s o
-    → Puts l i (hex (take (j + 1) bs)) s o
-hex-next bs j lt x y z = rw (add-one, take-suc bs j 0, hex-snoc (take j bs) (getD bs j 0)) (then x (then y z))
-
-pub hex-none : (bs : List ℕ) → length bs ≡ 0 → hexOrDash bs ≡ 45 ∷ []
-hex-none [] e = refl
-hex-none (b ∷ bs) e = absurd (omega arith)
-
-pub hex-some : (bs : List ℕ) → 0 < length bs → hexOrDash bs ≡ hex bs
-hex-some [] h = absurd (omega arith)
-hex-some (b ∷ bs) h = refl
 
 -- a whole buffer

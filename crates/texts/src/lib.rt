@@ -1,8 +1,8 @@
-// Texts laid one after the other into a buffer: bytes, words, decimal numbers, lower hex.
+// Texts laid one after the other into a buffer: bytes, words, decimal numbers.
 ghost use mathlib.Core.Path.{_≡_};
 ghost use mathlib.Core.List.{[], _∷_};
 ghost use Prim.Native.Nat.{_+_, _%_, _<_};
-ghost use Rattle.rules.specs.Trace.{digits, decimal, hexDigit, hexOrDash};
+ghost use Rattle.rules.specs.Trace.{digits, decimal};
 ghost use Rattle.texts.specs.Puts.{Puts};
 
 // Each of these writes a text from place at on, as much of it as the buffer holds, and answers the place after it.
@@ -53,33 +53,4 @@ pub fn put_decimal(line: &mut [u8], at: usize, n: usize) -> usize
     ensures { λ r. ⌜ Puts (now (line .entry)) at (decimal n) r (now (line .exit)) ⌝ }
 {
     put_digits(line, at, 5, n)
-}
-
-// 'lower hex'
-fn hex_digit(d: u8) -> u8
-    requires { ⌜ d < 16 ⌝ }
-    ensures { λ r. ⌜ r ≡ hexDigit d ⌝ }
-{
-    if d < 10 {
-        return 48 + d;
-    }
-    87 + d
-}
-
-// 'bytes given in lower hex or `-`'
-pub fn put_hex(line: &mut [u8], at: usize, bytes: &[u8]) -> usize
-    ensures { λ r. ⌜ Puts (now (line .entry)) at (hexOrDash (now (bytes .entry))) r (now (line .exit)) ⌝ }
-{
-    if bytes.len() == 0 {
-        return put_byte(line, at, b'-');
-    }
-    let mut p = at;
-    let mut i = 0;
-    while i < bytes.len() {
-        let b = bytes[i];
-        p = put_byte(line, p, hex_digit(b / 16));
-        p = put_byte(line, p, hex_digit(b % 16));
-        i += 1;
-    }
-    p
 }

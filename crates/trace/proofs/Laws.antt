@@ -30,17 +30,19 @@ use Rattle.rules.proofs.OutputLaws.{append-nil}
 use Rattle.port.specs.State.{sizes, get}
 use Rattle.port.specs.declared.Port.{Port}
 use Rattle.port.specs.declared.Answered.{Answered}
-use Rattle.lines.specs.Lines.{Prints, lineOf}
+use Rattle.lines.specs.Lines.{lineOf}
+use Rattle.texts.specs.Puts.{Prints}
 use Rattle.records.specs.Records.{Decodes, lentOf, meant, told}
 use Rattle.records.specs.declared.Decoded.{Decoded}
 use Rattle.records.specs.declared.Decoded.the-variants.{WellFormed, Malformed}
 use Rattle.discipline.specs.Contract.{Held, Exact, Stepped, held}
 use Rattle.discipline.proofs.Promises.{one-exact}
-use Rattle.lines.proofs.Promises.{prints-unique}
+use Rattle.texts.proofs.Front.{prints-unique}
 use Rattle.trace.specs.Contract.{answeredOf, givenOf, lentFrom, Exactly, Carries, Records}
 use Rattle.trace.specs.declared.Recorded.{Recorded}
 use Rattle.trace.specs.declared.Carried.{Carried}
-use Rattle.trace.proofs.Bounds.{Bounded, bounded}
+use Rattle.asking.specs.Asking.{Asked}
+use Rattle.asking.proofs.Laws.{asked-of}
 
 ---- load
 
@@ -191,7 +193,9 @@ module _ (p : Port) (bs ms os : List ℕ) (kind : ℕ) (body : List ℕ) (d : De
     as-long = ap lentBy (sym e ∙ h .tells ∙ ap told (sym asked))
 
     pub at-most : n ≤ 2048
-    at-most = omega (arith, as-long, subst Bounded (sym asked) (bounded kind body))
+    at-most =
+        let bounds : Asked kind body (asks call (lentOf call n body)) = subst (Asked kind body) (sym asked) (asked-of kind body) in
+        omega (arith, as-long, bounds .few)
 
     -- the call as the record asks for it
     made : (l m l′ bs′ ms′ os′ : List ℕ) (r : Answered) (a : Answer) → m ≡ take (min n (min (length body) (length l))) body ++ drop (min n (min (length body) (length l))) l

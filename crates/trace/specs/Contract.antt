@@ -12,7 +12,7 @@ use Rattle.rules.specs.Trace.{decode, answered, line, wellFormed, malformed}
 use Rattle.rules.specs.Trace as trace
 use Rattle.port.specs.State.{sizes, get}
 use Rattle.port.specs.declared.Port.{Port}
-use Rattle.lines.specs.Lines.{Prints}
+use Rattle.texts.specs.Puts.{Prints}
 use Rattle.calling.specs.Contract.{Now}
 use Rattle.discipline.specs.Contract.{Exact, held}
 use Rattle.trace.specs.declared.Carried.{Carried}

@@ -1,22 +1,10 @@
-// Document 01, stored input: a unit is stored whole, and whether it fits.
-ghost use mathlib.Core.Path.{_≡_};
+// Document 01, stored input: a unit is stored whole.
 ghost use mathlib.Core.List.{map};
 ghost use lib.ListN.{length};
 ghost use Rattle.rules.specs.Fit.{keptIn};
-ghost use Rattle.input.specs.Contract.{byteOf, markOf, get, Becomes, Within, Room, Grows, TellsUnit, unitOf};
+ghost use Rattle.input.specs.Contract.{byteOf, markOf, get, Becomes, Room, Grows, unitOf};
 use input::Input;
 use input::Unit;
-
-pub fn size(u: Unit) -> usize
-    ensures { λ r. ⌜ r ≡ length (unitOf u) ⌝ }
-{
-    match u {
-        Unit::Plain(_) => 1,
-        Unit::Doubled => 2,
-        Unit::Zero => 1,
-        Unit::Broken(_) => 3,
-    }
-}
 
 fn add_unit(i: Input, bytes: &mut [u8], marks: &mut [u8], u: Unit) -> Input
     requires { ⌜ Room i (now bytes) (now marks) (length (unitOf u)) ⌝ }
@@ -47,30 +35,4 @@ pub fn store(i: Input, bytes: &mut [u8], marks: &mut [u8], canonical: bool, u: U
         return longer;
     }
     places::all_ready(longer)
-}
-
-// another unit of u bytes; without ICANON any unit
-pub fn unit_fits(i: Input, n: usize, line: usize, canonical: bool, u: usize) -> bool
-    requires { ⌜ Within i n ⌝ }
-    ensures { λ r. ⌜ TellsUnit i n line canonical u r ⌝ }
-{
-    let q = i.queue;
-    let len = q.len;
-    if canonical {
-        let current = len - i.ready;
-        if line < u {
-            return false;
-        }
-        if line - u < current {
-            return false;
-        }
-        if n < u {
-            return false;
-        }
-        return len < n - u;
-    }
-    if n < u {
-        return false;
-    }
-    len <= n - u
 }

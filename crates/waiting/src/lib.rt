@@ -7,20 +7,8 @@ ghost use lib.ListN.{length};
 ghost use lib.Dec.{eqb, ltb};
 ghost use Rattle.rules.specs.Sizes.{Place};
 ghost use Rattle.rules.specs.Reads as read;
-ghost use Rattle.rules.specs.Step as step;
 use rules::Settings;
 use rules::Waiting;
-
-// Refusal 4: 'a read waits, and .. a read comes non-blocking or with another length'.
-pub fn clashes(w: Waiting, nonblocking: bool, n: usize) -> bool
-    ensures { λ r. ⌜ r ≡ read.clashes w nonblocking n ⌝ }
-{
-    match w {
-        Waiting::Idle => false,
-        Waiting::Untimed { count } => nonblocking || count != n,
-        Waiting::Timed { count, timer: _ } => nonblocking || count != n,
-    }
-}
 
 fn least(a: usize, b: usize) -> usize
     ensures { λ r. ⌜ r ≡ min a b ⌝ }
@@ -80,15 +68,5 @@ pub fn waits(new: Waiting, old: Waiting) -> Waiting
         Waiting::Idle => new,
         Waiting::Untimed { count } => Waiting::Untimed { count },
         Waiting::Timed { count, timer } => Waiting::Timed { count, timer },
-    }
-}
-
-pub fn a_read_waits(w: Waiting) -> bool
-    ensures { λ r. ⌜ r ≡ step.aReadWaits w ⌝ }
-{
-    match w {
-        Waiting::Idle => false,
-        Waiting::Untimed { count: _ } => true,
-        Waiting::Timed { count: _, timer: _ } => true,
     }
 }

@@ -10,7 +10,7 @@ use lib.Seq.{take-at, drop-at, take-all, take-nil, take-append-le, take-append-a
 use borrow.Rule.Slice.PartMut.{putMid}
 use Rattle.rules.specs.Trace.{trace}
 use Rattle.rules.proofs.OutputLaws.{append-nil}
-use Rattle.lines.specs.Lines.{Prints}
+use Rattle.texts.specs.Puts.{Prints}
 use Rattle.stream.specs.declared.Stream.{Stream}
 use Rattle.feeding.specs.declared.Fed.{Fed}
 use Rattle.stream.specs.Contract.{future, left, beginning}

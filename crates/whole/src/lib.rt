@@ -1,6 +1,6 @@
 // Document 01, 'The trace program', on an input that is there as a whole: every record in turn, a line each.
 ghost use Rattle.rules.specs.Trace.{trace};
-ghost use Rattle.lines.specs.Lines.{Prints};
+ghost use Rattle.texts.specs.Puts.{Prints};
 use port::Port;
 use stream::Stream;
 

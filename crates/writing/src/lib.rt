@@ -5,7 +5,6 @@ ghost use lib.Dec.{ltb, eqb};
 ghost use Rattle.port.specs.Contract as promise;
 use port::Answered;
 use port::Port;
-use rules::Answer;
 use rules::Outcome;
 use rules::Refusal;
 
@@ -19,32 +18,19 @@ fn nothing_taken(len: usize, count: usize) -> bool
     false
 }
 
-// 'A refusal returns its number and count 0; port and buffers keep every byte.'
-fn refuses(p: Port, r: Refusal) -> Answered
-    ensures { λ a. ⌜ a ≡ record { port = p; answer = record { outcome = Outcome.Refused r; count = 0 } } ⌝ }
-{
-    Answered {
-        port: p,
-        answer: Answer {
-            outcome: Outcome::Refused(r),
-            count: 0,
-        },
-    }
-}
-
 // 'A write takes bytes until one's whole expansion does not fit, then stops there; its count is the bytes taken.'
 pub fn write(p: Port, out: &mut [u8], src: &[u8]) -> Answered
     ensures { λ r. ⌜ promise.result r (now (out .exit)) (now (src .entry)) ≡ promise.written p (now (out .entry)) (now (src .entry)) ⌝ }
 {
     if p.hung {
-        return refuses(p, Refusal::HungUp);
+        return port::says(p, Outcome::Refused(Refusal::HungUp), 0);
     }
     let x = p.settings;
     let o = p.output;
-    let w = o.write(x, out, src);
+    let w = queuing::write(o, x, out, src);
     let count = w.count;
     if nothing_taken(src.len(), count) {
-        return refuses(p, Refusal::Nothing);
+        return port::says(p, Outcome::Refused(Refusal::Nothing), 0);
     }
     let output = w.output;
     let after = p.with_output(output);

@@ -3,8 +3,8 @@ use mathlib.Core.Path.{ap, _∙_}
 use mathlib.Core.Bool.{Bool, false}
 use Rattle.input.specs.declared.Input.{Input}
 use Rattle.output.specs.declared.Output.{Output}
-use Rattle.flushing.specs.Contract.{assembled}
-use Rattle.signalling.specs.Contract.{literalTo, stopTo}
+use Rattle.assembling.specs.Contract.{assembled}
+use Rattle.stopping.specs.Contract.{literalTo, stopTo}
 use borrow.Author.Needs.{needs}
 use Rattle.beginning.proofs.begins.Statement.{statement}
 use Rattle.beginning.proofs.begins.Tie as tie
@@ -13,7 +13,7 @@ use Rattle.beginning.proofs.begins.Lts as lts
 use Rattle.input.proofs.Input.with_literal.Reads as with-literal-reads
 use Rattle.output.proofs.Output.stop.Reads as stop-reads
 use Rattle.beginning.proofs.resumes.Reads as resumes-reads
-use Rattle.flushing.proofs.assemble.Reads as assemble-reads
+use Rattle.assembling.proofs.assemble.Reads as assemble-reads
 
 with-literal-requires : tie.Need-with-literal-requires
 with-literal-requires c κs = search needs

@@ -6,7 +6,7 @@ use Rattle.calls.proofs.cancel.Tie as tie
 use Rattle.calls.proofs.cancel.Reads as reads
 use Rattle.calls.proofs.cancel.Lts as lts
 use Rattle.port.proofs.says.Reads as says-reads
-use Rattle.flushing.proofs.assemble.Reads as assemble-reads
+use Rattle.assembling.proofs.assemble.Reads as assemble-reads
 
 assemble-requires : tie.Need-assemble-requires
 assemble-requires c κs = search needs

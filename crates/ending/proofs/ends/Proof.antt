@@ -9,7 +9,7 @@ use Rattle.ending.proofs.ends.Reads as reads
 use Rattle.ending.proofs.ends.Lts as lts
 use Rattle.showing.proofs.of_stored.Reads as of-stored-reads
 use Rattle.places.proofs.end.Reads as end-reads
-use Rattle.places.proofs.end_fits.Reads as end-fits-reads
+use Rattle.fitting.proofs.end_fits.Reads as end-fits-reads
 use Rattle.flushing.proofs.overflow.Reads as overflow-reads
 use Rattle.flushing.proofs.stored.Reads as stored-reads
 

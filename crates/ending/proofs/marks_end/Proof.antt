@@ -7,7 +7,7 @@ use Rattle.ending.proofs.marks_end.Statement.{statement}
 use Rattle.ending.proofs.marks_end.Tie as tie
 use Rattle.ending.proofs.marks_end.Reads as reads
 use Rattle.ending.proofs.marks_end.Lts as lts
-use Rattle.places.proofs.end_fits.Reads as end-fits-reads
+use Rattle.fitting.proofs.end_fits.Reads as end-fits-reads
 use Rattle.places.proofs.end_of_file.Reads as end-of-file-reads
 use Rattle.flushing.proofs.overflow.Reads as overflow-reads
 use Rattle.flushing.proofs.stored.Reads as stored-reads

@@ -8,7 +8,7 @@ use Rattle.feeding.proofs.advance.Statement.{statement}
 use Rattle.feeding.proofs.advance.Tie as tie
 use Rattle.feeding.proofs.advance.Reads as reads
 use Rattle.feeding.proofs.advance.Lts as lts
-use Rattle.lines.proofs.put_full.Reads as put-full-reads
+use Rattle.lastlines.proofs.put_full.Reads as put-full-reads
 use Rattle.gathering.proofs.begun.Reads as begun-reads
 use Rattle.completing.proofs.complete.Reads as complete-reads
 use Rattle.gathering.proofs.gather.Reads as gather-reads

@@ -5,8 +5,8 @@ use Rattle.flushing.proofs.overflow.Statement.{statement}
 use Rattle.flushing.proofs.overflow.Tie as tie
 use Rattle.flushing.proofs.overflow.Reads as reads
 use Rattle.flushing.proofs.overflow.Lts as lts
-use Rattle.output.proofs.Output.bell.Reads as bell-reads
-use Rattle.flushing.proofs.assemble.Reads as assemble-reads
+use Rattle.queuing.proofs.bell.Reads as bell-reads
+use Rattle.assembling.proofs.assemble.Reads as assemble-reads
 use Rattle.flushing.proofs.flush_input.Reads as flush-input-reads
 
 bell-requires : tie.Need-bell-requires

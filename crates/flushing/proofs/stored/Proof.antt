@@ -1,5 +1,5 @@
 -- `flushing::stored` meets its contract. Assumes nothing.
-use Rattle.flushing.specs.Contract.{assembled}
+use Rattle.assembling.specs.Contract.{assembled}
 use Rattle.rules.specs.Fit as fit
 use Rattle.rules.specs.declared.Waiting.{Waiting}
 use mathlib.Core.Bool.{Bool}
@@ -9,7 +9,7 @@ use Rattle.flushing.proofs.stored.Statement.{statement}
 use Rattle.flushing.proofs.stored.Tie as tie
 use Rattle.flushing.proofs.stored.Reads as reads
 use Rattle.flushing.proofs.stored.Lts as lts
-use Rattle.flushing.proofs.assemble.Reads as assemble-reads
+use Rattle.assembling.proofs.assemble.Reads as assemble-reads
 use Rattle.timing.proofs.between_bytes.Reads as between-bytes-reads
 use Rattle.timing.proofs.timer_stored.Reads as timer-stored-reads
 

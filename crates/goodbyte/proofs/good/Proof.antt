@@ -1,7 +1,7 @@
 -- `goodbyte::good` meets its contract. Assumes nothing.
 use mathlib.Core.Path.{sym, subst}
 use Rattle.port.specs.declared.Port.{Port}
-use Rattle.flushing.specs.Contract.{Ready}
+use Rattle.assembling.specs.Contract.{Ready}
 use Rattle.goodbyte.proofs.Laws.{good-of, begun-ready}
 use borrow.Author.Needs.{needs}
 use Rattle.goodbyte.proofs.good.Statement.{statement}
@@ -9,7 +9,7 @@ use Rattle.goodbyte.proofs.good.Tie as tie
 use Rattle.goodbyte.proofs.good.Reads as reads
 use Rattle.goodbyte.proofs.good.Lts as lts
 use Rattle.meaning.proofs.means.Reads as means-reads
-use Rattle.meaning.proofs.stripped.Reads as stripped-reads
+use Rattle.mapping.proofs.stripped.Reads as stripped-reads
 use Rattle.beginning.proofs.begins.Reads as begins-reads
 use Rattle.carrying.proofs.carries.Reads as carries-reads
 use Rattle.goodbyte.proofs.tells.Reads as tells-reads

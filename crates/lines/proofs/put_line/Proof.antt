@@ -1,7 +1,8 @@
 -- `lines::put_line` meets its contract: its texts are laid one after the other. Assumes nothing.
 use Rattle.rules.specs.Trace.{decimal, outcomeWord}
 use Rattle.texts.proofs.Texts.{then}
-use Rattle.lines.proofs.Lines.{then-spaced, prints}
+use Rattle.texts.proofs.Front.{prints}
+use Rattle.lines.proofs.Lines.{then-spaced}
 use borrow.Author.Needs.{needs}
 use Rattle.lines.proofs.put_line.Statement.{statement}
 use Rattle.lines.proofs.put_line.Tie as tie

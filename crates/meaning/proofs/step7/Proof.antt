@@ -8,7 +8,7 @@ use borrow.Author.Tests.{eq-eqb, ne-eqb}
 use borrow.Author.Needs.{needs}
 use Rattle.rules.specs.declared.Settings.{Settings}
 use Rattle.rules.specs.Received as steps
-use Rattle.meaning.proofs.Laws.{and-left, and-right}
+use Rattle.mapping.proofs.Laws.{and-left, and-right}
 use Rattle.meaning.proofs.step7.Statement.{statement}
 use Rattle.meaning.proofs.step7.Tie as tie
 

@@ -2,7 +2,7 @@
 use Rattle.rules.specs.declared.Signal.the-variants.{Int}
 use Rattle.rules.specs.Flushing.{flushBoth}
 use Rattle.rules.specs.Received.{reported}
-use Rattle.flushing.specs.Contract.{state}
+use Rattle.assembling.specs.Contract.{state}
 use Rattle.received.proofs.Laws.{reports-of}
 use borrow.Author.Needs.{needs}
 use Rattle.received.proofs.interrupts.Statement.{statement}

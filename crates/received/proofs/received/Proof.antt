@@ -3,8 +3,8 @@ use mathlib.Core.Path.{refl, sym}
 use Rattle.rules.specs.Sizes.{withWaiting}
 use Rattle.rules.specs.Received.{lowered}
 use lib.ListN.{length}
-use Rattle.flushing.specs.Contract.{sizesOf, state}
-use Rattle.flushing.proofs.Laws.{stays}
+use Rattle.assembling.specs.Contract.{sizesOf, state}
+use Rattle.assembling.proofs.Laws.{stays}
 use Rattle.received.proofs.Laws.{quiet-of, happens, ticked}
 use borrow.Author.Needs.{needs}
 use Rattle.received.proofs.received.Statement.{statement}

@@ -1,13 +1,13 @@
 -- `received::ticks` meets its contract. Assumes nothing.
 use mathlib.Core.Path.{ap, _∙_}
 use Rattle.rules.specs.declared.Waiting.{Waiting}
-use Rattle.flushing.specs.Contract.{assembled}
+use Rattle.assembling.specs.Contract.{assembled}
 use borrow.Author.Needs.{needs}
 use Rattle.received.proofs.ticks.Statement.{statement}
 use Rattle.received.proofs.ticks.Tie as tie
 use Rattle.received.proofs.ticks.Reads as reads
 use Rattle.received.proofs.ticks.Lts as lts
-use Rattle.flushing.proofs.assemble.Reads as assemble-reads
+use Rattle.assembling.proofs.assemble.Reads as assemble-reads
 use Rattle.timer.proofs.lowered.Reads as lowered-reads
 
 lowered-requires : tie.Need-lowered-requires

@@ -20,25 +20,25 @@ returns c =
 number-of-requires : tie.Need-number-of-requires
 number-of-requires c κs = search needs
 
-sub-settings-of : tie.Need-sub-settings-of
-sub-settings-of c = search needs
+sub-recorded : tie.Need-sub-recorded
+sub-recorded c = search needs
 
-part-settings-of-start : tie.Need-part-settings-of-start
-part-settings-of-start c = search needs
+part-recorded-start : tie.Need-part-recorded-start
+part-recorded-start c = search needs
 
-part-settings-of-end : tie.Need-part-settings-of-end
-part-settings-of-end c = search needs
+part-recorded-end : tie.Need-part-recorded-end
+part-recorded-end c = search needs
 
-settings-of-requires : tie.Need-settings-of-requires
-settings-of-requires c κs = search needs
+recorded-requires : tie.Need-recorded-requires
+recorded-requires c κs = search needs
 
 returns-2 : tie.Need-returns-2
 returns-2 c =
     let l = now (c .before .before .before .before .before .args .body) in
     let k = c .before .before in
     let h : length l ≡ 19 = k .before .if1 .left in
-    settings-told l (take (length l - 4) (drop 4 l)) (k .number-of .result) (c .settings-of .result) h
-    (take-all (length l - 4) (drop 4 l) (simp length-drop (omega arith))) (k .number-of .ensures) (c .settings-of .ensures)
+    settings-told l (take (length l - 4) (drop 4 l)) (k .number-of .result) (c .recorded .result) h
+    (take-all (length l - 4) (drop 4 l) (simp length-drop (omega arith))) (k .number-of .ensures) (c .recorded .ensures)
 
 pub settings-record-spec : {M : Type 1} → statement M
 settings-record-spec =
@@ -46,8 +46,8 @@ settings-record-spec =
     (tie.spec
     returns
     number-of-requires
-    sub-settings-of
-    part-settings-of-start
-    part-settings-of-end
-    settings-of-requires
+    sub-recorded
+    part-recorded-start
+    part-recorded-end
+    recorded-requires
     returns-2)

@@ -11,20 +11,20 @@ use Rattle.reprinting.proofs.measured.Tie as tie
 is-shown-requires : tie.Need-is-shown-requires
 is-shown-requires c κs = search needs
 
-byte-at-requires : tie.Need-byte-at-requires
-byte-at-requires c κs = search needs
+at-requires : tie.Need-at-requires
+at-requires c κs = search needs
 
 measured-requires : tie.Need-measured-requires
 measured-requires c κs = search needs
 
 returns : tie.Need-returns
 returns c =
-    let s = c .before .before .before .before .before .before in
+    let s = c .before .before .before .before .before .before .before in
     let a = s .args in
-    let t = c .before .before .before .is-shown in
-    let v = c .before .byte-at in
+    let t = c .before .before .before .before .is-shown in
+    let v = c .before .at in
     extends-as (a .x) (a .m) (c .measured .result) (visible (a .x) (v .result)) (placeEcho (a .x) (a .i) (a .bytes .now) (a .marks .now) (a .k))
-    (place-seen (a .x) (a .i) (a .bytes .now) (a .marks .now) (a .k) (t .result) (t .ensures) (v .result) (c .before .before .if1 .taken) (v .ensures))
+    (place-seen (a .x) (a .i) (a .bytes .now) (a .marks .now) (a .k) (t .result) (t .ensures) (v .result) (c .before .before .before .if1 .taken) (v .ensures))
     (c .measured .ensures)
 
 returns-2 : tie.Need-returns-2
@@ -38,4 +38,4 @@ returns-2 c =
 
 pub measured-spec : {M : Type 1} → statement M
 measured-spec =
-    tie.close (tie.spec is-shown-requires byte-at-requires measured-requires returns returns-2)
+    tie.close (tie.spec is-shown-requires at-requires measured-requires returns returns-2)

@@ -11,8 +11,8 @@ use Rattle.reprinting.proofs.shown.Tie as tie
 is-shown-requires : tie.Need-is-shown-requires
 is-shown-requires c κs = search needs
 
-byte-at-requires : tie.Need-byte-at-requires
-byte-at-requires c κs = search needs
+at-requires : tie.Need-at-requires
+at-requires c κs = search needs
 
 show-requires : tie.Need-show-requires
 show-requires c κs = search needs
@@ -22,13 +22,13 @@ same-length c = search needs
 
 returns : tie.Need-returns
 returns c =
-    let s = c .before .before .before .before .before .before .before .before .before .before in
+    let s = c .before .before .before .before .before .before .before .before .before .before .before in
     let a = s .args in
-    let t = c .before .before .before .before .before .before .is-shown in
-    let v = c .before .before .before .before .byte-at in
+    let t = c .before .before .before .before .before .before .before .is-shown in
+    let v = c .before .before .before .before .at in
     let r = c .before .before .show in
     shows-as (a .x) (a .o) (r .result) (a .out .now) (r .last .1 .1 .0) (visible (a .x) (v .result)) (placeEcho (a .x) (a .i) (a .bytes .now) (a .marks .now) (a .k))
-    (place-seen (a .x) (a .i) (a .bytes .now) (a .marks .now) (a .k) (t .result) (t .ensures) (v .result) (c .before .before .before .before .before .if1 .taken) (v .ensures))
+    (place-seen (a .x) (a .i) (a .bytes .now) (a .marks .now) (a .k) (t .result) (t .ensures) (v .result) (c .before .before .before .before .before .before .if1 .taken) (v .ensures))
     (r .ensures)
 
 fit-requires : tie.Need-fit-requires
@@ -48,7 +48,7 @@ shown-spec =
     tie.close
     (tie.spec
     is-shown-requires
-    byte-at-requires
+    at-requires
     show-requires
     same-length
     returns

@@ -9,8 +9,8 @@ use Rattle.storing.proofs.silently.Tie as tie
 use Rattle.storing.proofs.silently.Reads as reads
 use Rattle.storing.proofs.silently.Lts as lts
 use Rattle.units.proofs.store.Reads as store-reads
-use Rattle.units.proofs.unit_fits.Reads as unit-fits-reads
-use Rattle.units.proofs.size.Reads as size-reads
+use Rattle.fitting.proofs.unit_fits.Reads as unit-fits-reads
+use Rattle.fitting.proofs.size.Reads as size-reads
 use Rattle.flushing.proofs.overflow.Reads as overflow-reads
 use Rattle.flushing.proofs.stored.Reads as stored-reads
 

@@ -5,8 +5,8 @@ use Rattle.stream.proofs.last.Statement.{statement}
 use Rattle.stream.proofs.last.Tie as tie
 use Rattle.stream.proofs.last.Reads as reads
 use Rattle.stream.proofs.last.Lts as lts
-use Rattle.lines.proofs.put_cut.Reads as put-cut-reads
-use Rattle.lines.proofs.put_full.Reads as put-full-reads
+use Rattle.lastlines.proofs.put_cut.Reads as put-cut-reads
+use Rattle.lastlines.proofs.put_full.Reads as put-full-reads
 use Rattle.gathering.proofs.begun.Reads as begun-reads
 
 returns : tie.Need-returns

@@ -3,7 +3,7 @@ use lib.ListN.{length-drop}
 use Rattle.port.specs.Contract.{result, written}
 use Rattle.through.proofs.Laws.{rest-of}
 use Rattle.through.proofs.Laws.{count-le, through-of}
-use Rattle.port.proofs.Laws.{size-written}
+use Rattle.writing.proofs.Laws.{size-written}
 use Rattle.port.specs.Contract.{Outcomes}
 use lib.ListN.{length, drop}
 use Prim.Native.Nat.{_+_, _-_}

@@ -1,5 +1,5 @@
 -- `writing::nothing_taken` meets its contract. Assumes nothing.
-use Rattle.port.proofs.Laws.{some-bytes, no-bytes}
+use Rattle.writing.proofs.Laws.{some-bytes, no-bytes}
 use Rattle.writing.proofs.nothing_taken.Statement.{statement}
 use Rattle.writing.proofs.nothing_taken.Tie as tie
 use Rattle.writing.proofs.nothing_taken.Reads as reads

@@ -1,5 +1,5 @@
 -- `writing::transmit` meets its contract. Assumes nothing.
-use Rattle.port.proofs.Laws.{sent-of}
+use Rattle.writing.proofs.Laws.{sent-of}
 use borrow.Author.Needs.{needs}
 use Rattle.writing.proofs.transmit.Statement.{statement}
 use Rattle.writing.proofs.transmit.Tie as tie

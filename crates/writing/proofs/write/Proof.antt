@@ -1,23 +1,22 @@
 -- `writing::write` meets its contract. Assumes nothing.
 use lib.Dec.{ltb}
 use lib.ListN.{length}
-use Rattle.port.proofs.Laws.{hung-of, none-of, some-of, counted-none}
+use Rattle.writing.proofs.Laws.{hung-of, none-of, some-of, counted-none}
 use borrow.Author.Needs.{needs}
 use Rattle.writing.proofs.write.Statement.{statement}
 use Rattle.writing.proofs.write.Tie as tie
 use Rattle.writing.proofs.write.Reads as reads
 use Rattle.writing.proofs.write.Lts as lts
-use Rattle.output.proofs.Output.write.Reads as write-reads
+use Rattle.queuing.proofs.write.Reads as write-reads
 use Rattle.port.proofs.Port.with_output.Reads as with-output-reads
 use Rattle.writing.proofs.nothing_taken.Reads as nothing-taken-reads
-use Rattle.writing.proofs.refuses.Reads as refuses-reads
 use Rattle.port.proofs.says.Reads as says-reads
 
-refuses-requires : tie.Need-refuses-requires
-refuses-requires c κs = search needs
+says-requires : tie.Need-says-requires
+says-requires c κs = search needs
 
 returns : tie.Need-returns
-returns c = hung-of (c .before .before .before .before .args .p) (c .before .before .before .before .args .out .now) (c .before .before .before .before .args .src .now) (c .refuses .result) (c .refuses .ensures) (c .before .if1 .taken)
+returns c = hung-of (c .before .before .before .before .args .p) (c .before .before .before .before .args .out .now) (c .before .before .before .before .args .src .now) (c .says .result) (c .says .ensures) (c .before .if1 .taken)
 
 write-requires : tie.Need-write-requires
 write-requires c κs = search needs
@@ -25,8 +24,8 @@ write-requires c κs = search needs
 nothing-taken-requires : tie.Need-nothing-taken-requires
 nothing-taken-requires c κs = search needs
 
-refuses-requires-2 : tie.Need-refuses-requires-2
-refuses-requires-2 c κs = search needs
+says-requires-2 : tie.Need-says-requires-2
+says-requires-2 c κs = search needs
 
 same-length : tie.Need-same-length
 same-length c = search needs
@@ -36,14 +35,14 @@ returns-2 c =
     let start = c .before .before .before .before .before .before .before .before .before .before .before .before in
     let w = c .before .before .before .before .before .write in
     let t = c .before .before .nothing-taken in
-    none-of (start .args .p) (start .args .out .now) (start .args .src .now) (w .result) (w .last .1 .1 .0) (w .ensures) (c .before .before .before .before .before .before .before .before .before .if1 .left) (c .refuses2 .result) (t .result) (c .refuses2 .ensures) (t .ensures) (c .before .if2 .taken)
+    none-of (start .args .p) (start .args .out .now) (start .args .src .now) (w .result) (w .last .1 .1 .0) (w .ensures) (c .before .before .before .before .before .before .before .before .before .if1 .left) (c .says2 .result) (t .result) (c .says2 .ensures) (t .ensures) (c .before .if2 .taken)
     (counted-none (t .result) (ltb 0 (length (start .args .src .now))) (w .result .count) (t .ensures) (c .before .if2 .taken))
 
 with-output-requires : tie.Need-with-output-requires
 with-output-requires c κs = search needs
 
-says-requires : tie.Need-says-requires
-says-requires c κs = search needs
+says-requires-3 : tie.Need-says-requires-3
+says-requires-3 c κs = search needs
 
 same-length-2 : tie.Need-same-length-2
 same-length-2 c = search needs
@@ -53,20 +52,20 @@ returns-3 c =
     let start = c .before .before .before .before .before .before .before .before .before .before .before .before .before .before in
     let w = c .before .before .before .before .before .before .before .write in
     let t = c .before .before .before .before .nothing-taken in
-    some-of (start .args .p) (start .args .out .now) (start .args .src .now) (w .result) (w .last .1 .1 .0) (w .ensures) (c .before .before .before .before .before .before .before .before .before .before .before .if1 .left) (c .says .result) (c .before .with-output .result) (t .result) (c .before .with-output .ensures) (c .says .ensures) (t .ensures) (c .before .before .before .if2 .left)
+    some-of (start .args .p) (start .args .out .now) (start .args .src .now) (w .result) (w .last .1 .1 .0) (w .ensures) (c .before .before .before .before .before .before .before .before .before .before .before .if1 .left) (c .says3 .result) (c .before .with-output .result) (t .result) (c .before .with-output .ensures) (c .says3 .ensures) (t .ensures) (c .before .before .before .if2 .left)
 
 pub write-spec : {M : Type 1} → statement M
 write-spec =
     tie.close
     (tie.spec
-    refuses-requires
+    says-requires
     returns
     write-requires
     nothing-taken-requires
-    refuses-requires-2
+    says-requires-2
     same-length
     returns-2
     with-output-requires
-    says-requires
+    says-requires-3
     same-length-2
     returns-3)

@@ -1,0 +1,2 @@
+-- What a well-formed record can ask for.
+pub mod Asking

@@ -1,0 +1,27 @@
+-- What ERASE, WERASE, KILL and REPRINT promise of a port.
+use Prim.Native.Nat.{ℕ}
+use mathlib.Core.Path.{_≡_}
+use mathlib.Core.List.{List}
+use lib.ListN.{length}
+use Rattle.rules.specs.Sizes.{Place}
+use Rattle.rules.specs.Editing.{Edit, units, removed}
+use Rattle.rules.specs.Received.{editOn}
+use Rattle.input.specs.Contract.{get, shortened}
+use Rattle.editing.specs.Contract.{Removes}
+use Rattle.editing.specs.declared.Run.{Run}
+use Rattle.port.specs.declared.Port.{Port}
+use Rattle.assembling.specs.Contract.{state, sizesOf, assembled, Becomes}
+
+-- the units of the current line
+abbrev pub unitsOf : Port → List ℕ → List ℕ → List (List Place)
+unitsOf p bs ms = units (get (p .input) bs ms .current)
+
+-- the port with its line cut where the run begins
+abbrev pub without : Port → Run → Port
+without p run = assembled p (shortened (run .at) (p .input)) (p .output) (p .waiting)
+
+-- The run is what the edit e removes: then the port is the rules' state after it.
+abbrev pub Edited : Port → ℕ → List ℕ → Run → ℕ → Port → List ℕ → Edit → Type 0
+Edited p n os run b r os′ e =
+    (bs ms : List ℕ) → length bs ≡ n → length ms ≡ n → Removes (p .input) bs ms (removed (p .settings) e (unitsOf p bs ms)) run
+    → Becomes p bs ms os (editOn (unitsOf p bs ms) (sizesOf p n (length os)) (state p bs ms os) e b) r bs ms os′

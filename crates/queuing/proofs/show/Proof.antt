@@ -1,0 +1,94 @@
+-- `queuing::show` meets its contract. Assumes nothing.
+use borrow.Author.Needs.{needs}
+use lib.ListN.{take}
+use Rattle.rules.specs.Output.{written}
+use Rattle.output.specs.Contract.{get}
+use Rattle.queuing.specs.Contract.{takes}
+use Rattle.output.proofs.Laws.{same-size}
+use Rattle.queuing.proofs.Run.{Measuring, measuring-next, shows, shows-nothing}
+use lib.ListN.{length}
+use native.Mathlib.Omega.{arith}
+use Prim.Native.Nat.{_-_}
+use Rattle.queuing.proofs.show.Statement.{statement}
+use Rattle.queuing.proofs.show.Tie as tie
+use Rattle.queuing.proofs.show.Reads as reads
+use Rattle.queuing.proofs.show.Lts as lts
+use Rattle.columns.proofs.Measure.and.Reads as and-reads
+use Rattle.output.proofs.Output.fit.Reads as fit-reads
+use Rattle.output.proofs.Output.measure.Reads as measure-reads
+use Rattle.queuing.proofs.write.Reads as write-reads
+
+abbrev Inv-loop : tie.InvT-loop
+Inv-loop self x out bytes n m₀ i₀ m i = Measuring x self n bytes i m
+
+abbrev μ-loop : tie.MeasureT-loop
+μ-loop self x out bytes n m₀ i₀ m i = length bytes - i
+
+measure-requires : tie.Need-measure-requires Inv-loop μ-loop
+measure-requires c κs = search needs
+
+loop-holds : tie.Need-loop-holds Inv-loop μ-loop
+loop-holds c = record { upto = omega arith; so = c .measure .ensures (c .before .before .before .args .x) }
+
+shared-slice-read-and : tie.Need-shared-slice-read-and Inv-loop μ-loop
+shared-slice-read-and c = omega arith
+
+and-requires : tie.Need-and-requires Inv-loop μ-loop
+and-requires c κs = search needs
+
+add-i : tie.Need-add-i Inv-loop μ-loop
+add-i c = omega arith
+
+loop-less : tie.Need-loop-less Inv-loop μ-loop
+loop-less c = omega arith
+
+loop-again : tie.Need-loop-again Inv-loop μ-loop
+loop-again c = measuring-next (c .before .before .before .before .before .before .before .args .x) (c .before .before .before .before .before .before .before .args .was) (length (c .before .before .before .before .before .before .before .args .out .now)) (c .before .before .before .before .before .before .before .args .bytes .now) (c .before .before .before .loop .i) (c .before .before .before .loop .m) (c .and .result) (c .before .before .before .loop .inv) (c .before .before .loop-test .taken) (c .and .ensures)
+
+write-requires : tie.Need-write-requires Inv-loop μ-loop
+write-requires c κs = search needs
+
+same-length : tie.Need-same-length Inv-loop μ-loop
+same-length c =
+    let start = c .before .before .before .before .before .before .before .before .before .before .before in
+    let w = c .before .before .before .write in
+    let x = start .args .x in
+    let o = start .args .was in
+    let l = start .args .out .now in
+    let bs = start .args .bytes .now in
+    same-size o (w .result .output) l (w .last .1 .1 .0) (written x (get o l) (take (takes x o l bs) bs)) (w .ensures .output)
+
+returns : tie.Need-returns Inv-loop μ-loop
+returns c =
+    let start = c .before .before .before .before .before .before .before .before .before .before .before in
+    let loop = c .before .before .before .before .before .before .before .loop in
+    let w = c .before .before .before .write in
+    shows (start .args .x) (start .args .was) (start .args .out .now) (start .args .bytes .now) (loop .i) (loop .m) (loop .inv) (c .before .before .before .before .before .before .loop-test .left) (c .before .before .before .before .before .if1 .taken) (w .result) (w .last .1 .1 .0) (w .ensures)
+
+fit-requires : tie.Need-fit-requires Inv-loop μ-loop
+fit-requires c κs = search needs
+
+returns-2 : tie.Need-returns-2 Inv-loop μ-loop
+returns-2 c =
+    let start = c .before .before .before .before .before .before .before in
+    let loop = c .before .before .before .loop in
+    shows-nothing (start .args .x) (start .args .was) (start .args .out .now) (start .args .bytes .now) (loop .i) (loop .m) (loop .inv) (c .before .before .loop-test .left) (c .before .if1 .left) (c .fit .result) (c .fit .ensures)
+
+pub show-spec : {M : Type 1} → statement M
+show-spec =
+    tie.close
+    (tie.spec
+    Inv-loop
+    μ-loop
+    measure-requires
+    loop-holds
+    shared-slice-read-and
+    and-requires
+    add-i
+    loop-less
+    loop-again
+    write-requires
+    same-length
+    returns
+    fit-requires
+    returns-2)

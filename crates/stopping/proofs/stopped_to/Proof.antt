@@ -1,0 +1,23 @@
+-- `stopping::stopped_to` meets its contract. Assumes nothing.
+use mathlib.Core.Path.{ap, _∙_}
+use Rattle.output.specs.declared.Output.{Output}
+use Rattle.port.specs.State.{withOutput}
+use borrow.Author.Needs.{needs}
+use Rattle.stopping.proofs.stopped_to.Statement.{statement}
+use Rattle.stopping.proofs.stopped_to.Tie as tie
+use Rattle.stopping.proofs.stopped_to.Reads as reads
+use Rattle.stopping.proofs.stopped_to.Lts as lts
+use Rattle.output.proofs.Output.stop.Reads as stop-reads
+use Rattle.port.proofs.Port.with_output.Reads as with-output-reads
+
+stop-requires : tie.Need-stop-requires
+stop-requires c κs = search needs
+
+with-output-requires : tie.Need-with-output-requires
+with-output-requires c κs = search needs
+
+returns : tie.Need-returns
+returns c = (c .with-output .ensures) ∙ ap (λ (y : Output). withOutput (c .before .before .before .args .p) y) (c .before .stop .ensures)
+
+pub stopped-to-spec : {M : Type 1} → statement M
+stopped-to-spec = tie.close (tie.spec stop-requires with-output-requires returns)
