@@ -4,7 +4,7 @@ use native.Mathlib.Omega.{arith}
 use mathlib.Core.Path.{_≡_, refl}
 use mathlib.Core.Bool.{Bool, true, false, cond}
 use mathlib.Core.List.{List, [], _∷_, _++_}
-use lib.ListN.{length, take, length-append, length-take, length-map}
+use lib.ListN.{length, take, length-append, length-take}
 use lib.Dec.{ltb, eqb}
 use Rattle.rules.specs.declared.Call.{Call}
 use Rattle.rules.specs.declared.Call.the-variants.{Set, Receive, Read, Write, Transmit, Flush, Cancel, Foreground, ReadVerdict, WriteVerdict, SettingsVerdict}
@@ -21,30 +21,16 @@ use Rattle.rules.specs.Reads as reads
 use Rattle.rules.specs.Step.{step}
 use Rattle.rules.specs.Trace as trace
 use Rattle.rules.specs.Trace.{text, digits, decimal, hex, hexOrDash, signalWord, verdictWord, outcomeWord, wellFormed, malformed, decode, answered, line, cutLine, fullLine}
+use Rattle.firstline.proofs.Laws.{line-count, bytes-count}
 use Rattle.asking.specs.Asking.{Asked}
 use Rattle.asking.proofs.Laws.{asked-of}
 use Rattle.trace.proofs.Laws.{handed-count}
 
 ---- What a call hands out
 
-line-short : (n : ℕ) (ps : List Place) → length (reads.firstLine n ps .bytes) ≤ n
-line-short n [] = omega arith
-line-short zero (p ∷ ps) = by (p .mark)
-  where
-    by : (t : Bool) → length (cond {A = reads.Part} t (record { bytes = []; left = ps }) (record { bytes = []; left = p ∷ ps }) .bytes) ≤ 0
-    by true = omega arith
-    by false = omega arith
-line-short (suc n) (p ∷ ps) = by (p .mark) (p .ends) (line-short n ps)
-  where
-    by : (t u : Bool) → length (reads.firstLine n ps .bytes) ≤ n
-        → length (cond {A = reads.Part} t (record { bytes = []; left = ps }) (cond u (record { bytes = p .byte ∷ []; left = ps }) (reads.behind (p .byte) (reads.firstLine n ps))) .bytes) ≤ suc n
-    by true u le = omega arith
-    by false true le = omega arith
-    by false false le = omega arith
-
 part-short : (icanon : Bool) (n : ℕ) (ps : List Place) → length (reads.partOf icanon n ps .bytes) ≤ n
-part-short true n ps = line-short n ps
-part-short false n ps = omega (arith, length-map (take n ps) (λ (p : Place). p .byte), length-take n ps)
+part-short true n ps = line-count n ps
+part-short false n ps = bytes-count n ps
 
 module _ (s : State) (n : ℕ) where
   ruled-short : (a b c : Bool) → length (handed (reads.ruledOn a b c s n .1)) ≤ n

@@ -6,11 +6,10 @@ use mathlib.Core.List.{List, _++_}
 use lib.ListN.{length, take, drop}
 use Rattle.queue.specs.Queue.{held}
 use Rattle.rules.specs.Sizes.{Place, Input as Ruled, used}
-use Rattle.rules.specs.Reads.{Part, bytesOf, firstLine, firstBytes}
+use Rattle.rules.specs.Reads.{Part, firstLine, firstBytes}
 use Rattle.input.specs.declared.Input.{Input}
 use Rattle.input.specs.Contract.{get, put, Within}
 use Rattle.reading.specs.declared.Taken.{Taken}
-use Rattle.reading.specs.declared.Line.{Line}
 
 ---- Reads
 
@@ -38,19 +37,6 @@ ReadsLine i bs ms d r d′ = Reads i bs ms d (firstLine (length d) (get i bs ms 
 abbrev pub ReadsBytes : Input → List ℕ → List ℕ → Taken → List ℕ → Type 0
 ReadsBytes i bs d r d′ =
     (ms : List ℕ) → length bs ≡ length ms → Reads i bs ms d (firstBytes (length d) (get i bs ms .finished)) r d′
-
--- the part p of the places ps: the bytes of the first `count`, without the first `taken`
-pub record Splits (p : Part) (ps : List Place) (count taken : ℕ) : Type 0 where
-  pub bytes : p .bytes ≡ bytesOf (take count ps)
-  pub left : p .left ≡ drop taken ps
-  pub upto : count ≤ taken
-  pub all : taken ≤ length ps
-
--- where the first line ends, whatever its bytes are
-abbrev pub TellsLine : Input → List ℕ → ℕ → Line → Type 0
-TellsLine i ms n r =
-    (bs : List ℕ) → length bs ≡ length ms
-    → Splits (firstLine n (get i bs ms .finished)) (get i bs ms .finished) (r .count) (r .taken) × (r .count ≤ n)
 
 -- `count` bytes can be given and `taken` places be dropped
 pub record Gives (i : Input) (bs d : List ℕ) (count taken : ℕ) : Type 0 where

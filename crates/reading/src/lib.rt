@@ -2,56 +2,13 @@
 ghost use Prim.Native.Nat.{_/_};
 ghost use lib.ListN.{length};
 ghost use Rattle.input.specs.Contract.{Within, Sound};
-ghost use Rattle.reading.specs.Contract.{ReadsLine, ReadsBytes, TellsLine, Gives, Given};
+ghost use Rattle.reading.specs.Contract.{ReadsLine, ReadsBytes, Gives, Given};
 use input::Input;
 
 // What a read leaves, and how many bytes it gave.
 pub struct Taken {
     pub input: Input,
     pub count: usize,
-}
-
-// The bytes of the first line that a read gives, and the places that it takes: a mark is a place and no byte.
-struct Line {
-    count: usize,
-    taken: usize,
-}
-
-// 'at most the requested bytes of the first finished line, its NL, EOL or EOL2 included'
-fn first_line(i: Input, marks: &[u8], n: usize) -> Line
-    requires { ⌜ Within i (length (now marks)) ⌝ }
-    ensures { λ r. ⌜ TellsLine i (now (marks .entry)) n r ⌝ }
-{
-    let q = i.queue;
-    let ready = i.ready;
-    let most = queue::least(n, ready);
-    let mut k = 0;
-    while k < most {
-        let m = q.at(marks, k);
-        if marks::is_mark(m) {
-            return Line {
-                count: k,
-                taken: k + 1, // a mark is taken and gives no byte
-            };
-        }
-        if marks::ends(m) {
-            return Line {
-                count: k + 1,
-                taken: k + 1,
-            };
-        }
-        k += 1;
-    }
-    if k < ready {
-        let m = q.at(marks, k);
-        if marks::is_mark(m) {
-            return Line {
-                count: k,
-                taken: k + 1, // 'Taking the last byte before a mark takes the mark.'
-            };
-        }
-    }
-    Line { count: k, taken: k }
 }
 
 // count bytes into dst; the oldest `taken` places are gone
@@ -78,7 +35,7 @@ pub fn read_line(i: Input, bytes: &[u8], marks: &[u8], dst: &mut [u8]) -> Taken
     requires { ⌜ Sound i (now bytes) (now marks) ⌝ }
     ensures { λ r. ⌜ ReadsLine i (now (bytes .entry)) (now (marks .entry)) (now (dst .entry)) r (now (dst .exit)) ⌝ }
 {
-    let line = first_line(i, marks, dst.len());
+    let line = firstline::first_line(i, marks, dst.len());
     give(i, bytes, dst, line.count, line.taken)
 }
 

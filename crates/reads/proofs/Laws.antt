@@ -21,8 +21,8 @@ use Rattle.port.specs.declared.Answered.{Answered}
 use Rattle.assembling.specs.Contract.{assembled}
 use Rattle.calling.proofs.Laws.{bytes-long, marks-long}
 use Rattle.reads.specs.Contract.{Reads}
-use Rattle.taking.specs.Contract.{stateOf, Takes}
-use Rattle.taking.proofs.Laws.{as-read, none-taken, refused-of}
+use Rattle.finishing.specs.Contract.{stateOf, Takes}
+use Rattle.finishing.proofs.Laws.{as-read, none-taken, refused-of}
 
 module _ (p : Port) (i : Input) (bs ms d : List ℕ) (h : input.Sound i bs ms) where
   abbrev s : State

@@ -27,9 +27,9 @@ use Rattle.port.specs.declared.Answered.{Answered}
 use Rattle.calling.specs.Contract.{stepOf, Now}
 use Rattle.calling.proofs.Promises.{same-state}
 use Rattle.reads.specs.Contract.{Reads}
-use Rattle.taking.specs.Contract.{stateOf, took, Takes}
+use Rattle.finishing.specs.Contract.{stateOf, took, Takes}
 use Rattle.reads.proofs.Laws.{sound-places, there}
-use Rattle.taking.proofs.Laws.{same-place}
+use Rattle.finishing.proofs.Laws.{same-place}
 
 ---- No second result
 

@@ -10,7 +10,7 @@ use Rattle.port.specs.State.{places}
 use Rattle.port.specs.declared.Port.{Port}
 use Rattle.port.specs.declared.Answered.{Answered}
 use Rattle.calling.specs.Contract.{stepOf}
-use Rattle.taking.specs.Contract.{Takes}
+use Rattle.finishing.specs.Contract.{Takes}
 
 -- A read of as many bytes as the buffer d has, of the places that both slices have.
 abbrev pub Reads : Port → List ℕ → List ℕ → List ℕ → Bool → Answered → List ℕ → Type 0

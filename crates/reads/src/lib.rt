@@ -3,7 +3,7 @@ ghost use lib.ListN.{length};
 ghost use Rattle.rules.specs.Reads as rule;
 ghost use Rattle.input.specs.Contract.{Sound};
 ghost use Rattle.reads.specs.Contract.{Reads};
-ghost use Rattle.taking.specs.Contract.{Takes, stateOf};
+ghost use Rattle.finishing.specs.Contract.{Takes, stateOf};
 use input::Input;
 use port::Answered;
 use port::Port;
@@ -27,13 +27,13 @@ fn ordered(
     let w = p.waiting;
     let n = dst.len();
     if p.hung {
-        return port::says(taking::with_read(p, i, Waiting::Idle), Outcome::Ok, 0);
+        return port::says(finishing::with_read(p, i, Waiting::Idle), Outcome::Ok, 0);
     }
     if clashing::clashes(w, nonblocking, n) {
         return port::says(p, Outcome::Refused(Refusal::ReadWaits), 0);
     }
     if n == 0 {
-        return port::says(taking::with_read(p, i, w), Outcome::Ok, 0);
+        return port::says(finishing::with_read(p, i, w), Outcome::Ok, 0);
     }
     taking::ruled(p, i, bytes, marks, dst, nonblocking)
 }

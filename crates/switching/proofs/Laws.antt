@@ -21,7 +21,8 @@ use Rattle.input.specs.Contract.{placeOf, bit, markOf, byteOf, places, all, get
 use Rattle.input.specs.declared.Input.{Input}
 use Rattle.input.proofs.Laws.{places-of, places-at, stored-length, stored-all, all-length, used-of, get-of, After, numbers-are}
 use Rattle.input.specs.Contract.{Sound}
-use Rattle.reading.proofs.Laws.{nowhere, bytes-all, held-same, literal-same}
+use Rattle.firstline.proofs.Laws.{nowhere}
+use Rattle.reading.proofs.Laws.{bytes-all, held-same, literal-same}
 use Rattle.switching.specs.Contract.{Laid, GoesOff, GoesOn, inLine}
 
 ---- Places laid anew from the head on

@@ -1,11 +1,11 @@
--- `reading::first_line` meets its contract. Assumes nothing.
+-- `firstline::first_line` meets its contract. Assumes nothing.
 use Prim.Native.Nat.{_≤_, _<_, _-_, min}
 use borrow.Author.Needs.{needs}
 use native.Mathlib.Omega.{arith}
 use Rattle.queue.specs.Queue.{held}
-use Rattle.reading.proofs.Laws.{Plain, plain-none, plain-next, line-at-mark, line-at-end, line-at-stop, line-at-last}
-use Rattle.reading.proofs.first_line.Statement.{statement}
-use Rattle.reading.proofs.first_line.Tie as tie
+use Rattle.firstline.proofs.Laws.{Plain, plain-none, plain-next, line-at-mark, line-at-end, line-at-stop, line-at-last}
+use Rattle.firstline.proofs.first_line.Statement.{statement}
+use Rattle.firstline.proofs.first_line.Tie as tie
 
 abbrev Inv-loop : tie.InvT-loop
 Inv-loop marks n q ready most k₀ k = (k ≤ most) × Plain (held q marks) k

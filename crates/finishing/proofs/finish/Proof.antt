@@ -1,8 +1,8 @@
--- `taking::finish` meets its contract. Assumes nothing.
-use Rattle.taking.proofs.Laws.{line-given, bytes-given}
+-- `finishing::finish` meets its contract. Assumes nothing.
+use Rattle.finishing.proofs.Laws.{line-given, bytes-given}
 use borrow.Author.Needs.{needs}
-use Rattle.taking.proofs.finish.Statement.{statement}
-use Rattle.taking.proofs.finish.Tie as tie
+use Rattle.finishing.proofs.finish.Statement.{statement}
+use Rattle.finishing.proofs.finish.Tie as tie
 
 read-line-requires : tie.Need-read-line-requires
 read-line-requires c κs = search needs
