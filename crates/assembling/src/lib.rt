@@ -6,6 +6,7 @@ use output::Output;
 use port::Port;
 use rules::Waiting;
 
+// the port with other queues and another waiting read
 pub fn assemble(p: Port, input: Input, output: Output, waiting: Waiting) -> Port
     ensures { λ r. ⌜ r ≡ assembled p input output waiting ⌝ }
 {

@@ -1,5 +1,4 @@
 // Document 01, 'Reads': what a read gives of the first finished line.
-ghost use Prim.Native.Nat.{_/_};
 ghost use lib.ListN.{length};
 ghost use Rattle.input.specs.Contract.{Within};
 ghost use Rattle.firstline.specs.Contract.{TellsLine};

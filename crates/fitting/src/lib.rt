@@ -28,6 +28,7 @@ pub fn unit_of(x: Settings, b: u8) -> Unit
     Unit::Plain(b)
 }
 
+// the bytes of a unit
 pub fn size(u: Unit) -> usize
     ensures { λ r. ⌜ r ≡ length (unitOf u) ⌝ }
 {

@@ -1,6 +1,6 @@
 // Document 01, 'The trace program': 'bytes given in lower hex or `-`'.
 ghost use mathlib.Core.Path.{_≡_};
-ghost use Prim.Native.Nat.{_+_, _%_, _<_};
+ghost use Prim.Native.Nat.{_<_};
 ghost use Rattle.rules.specs.Trace.{hexDigit, hexOrDash};
 ghost use Rattle.texts.specs.Puts.{Puts};
 

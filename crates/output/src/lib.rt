@@ -3,7 +3,6 @@ ghost use mathlib.Core.Path.{_≡_};
 ghost use mathlib.Core.List.{[]};
 ghost use mathlib.Core.Bool.{false};
 ghost use Prim.Native.Nat.{_%_};
-ghost use lib.ListN.{length};
 ghost use Rattle.queue.specs.Queue.{laid};
 ghost use Rattle.output.specs.Contract.{inRange, Sends, Begins};
 use columns::Measure;

@@ -1,5 +1,4 @@
 // Document 01, 'Reads': what a read takes from the stored input.
-ghost use Prim.Native.Nat.{_/_};
 ghost use lib.ListN.{length};
 ghost use Rattle.input.specs.Contract.{Within, Sound};
 ghost use Rattle.reading.specs.Contract.{ReadsLine, ReadsBytes, Gives, Given};

@@ -1,7 +1,7 @@
 // Texts laid one after the other into a buffer: bytes, words, decimal numbers.
 ghost use mathlib.Core.Path.{_≡_};
 ghost use mathlib.Core.List.{[], _∷_};
-ghost use Prim.Native.Nat.{_+_, _%_, _<_};
+ghost use Prim.Native.Nat.{_+_, _%_};
 ghost use Rattle.rules.specs.Trace.{digits, decimal};
 ghost use Rattle.texts.specs.Puts.{Puts};
 
