@@ -4,7 +4,8 @@ use mathlib.Core.Path.{_≡_}
 use mathlib.Core.List.{List}
 use lib.ListN.{length}
 use Rattle.rules.specs.declared.Waiting.{Waiting}
-use Rattle.rules.specs.Sizes.{Sizes, State}
+use Rattle.rules.specs.Sizes.{Sizes, State, Place}
+use Rattle.rules.specs.Editing.{units}
 use Rattle.input.specs.Contract as input
 use Rattle.input.specs.declared.Input.{Input}
 use Rattle.output.specs.Contract as output
@@ -26,6 +27,10 @@ state p bs ms os =
 -- n places of input, m bytes of output
 abbrev pub sizesOf : Port → ℕ → ℕ → Sizes
 sizesOf p n m = record { line = p .line; input = n; output = m }
+
+-- the units of the current line
+abbrev pub unitsOf : Port → List ℕ → List ℕ → List (List Place)
+unitsOf p bs ms = units (input.get (p .input) bs ms .current)
 
 -- the numbers of both queues are in range
 pub record Ranged (p : Port) (n m : ℕ) : Type 0 where

@@ -20,7 +20,7 @@ pub fn carries(p: Port, bytes: &mut [u8], marks: &mut [u8], out: &mut [u8], m: M
         Meaning::Drops => p,
         Meaning::Edits(e, b) => edits::edit(p, bytes, marks, out, e, b),
         Meaning::Ends(b) => ending::ends(p, bytes, marks, out, b),
-        Meaning::Marks => ending::marks_end(p, bytes, marks, out),
+        Meaning::Marks => marking::marks_end(p, bytes, marks, out),
         Meaning::Stores(b) => storing::stores(p, bytes, marks, out, b),
     }
 }

@@ -21,7 +21,8 @@ use Rattle.port.specs.State.{places, get}
 use Rattle.port.specs.declared.Port.{Port}
 use Rattle.port.specs.declared.Answered.{Answered}
 use Rattle.input.specs.Contract.{Sound}
-use Rattle.switching.specs.Contract.{GoesOff, GoesOn}
+use Rattle.switching.specs.Contract.{GoesOff}
+use Rattle.joining.specs.Contract.{GoesOn}
 use Rattle.calling.specs.Contract.{stepOf}
 use Rattle.calling.proofs.Laws.{bytes-long, marks-long, both-long}
 use Rattle.changes.specs.Contract.{Changes, resumed, withSettings, Changed, Sets}

@@ -20,7 +20,8 @@ use Rattle.port.specs.Contract.{refused}
 use Rattle.port.specs.declared.Port.{Port}
 use Rattle.port.specs.declared.Answered.{Answered}
 use Rattle.input.specs.Contract.{Sound}
-use Rattle.switching.proofs.Laws.{one-laid, one-line-on, off-after, on-after}
+use Rattle.switching.proofs.Laws.{one-laid, off-after}
+use Rattle.joining.proofs.Laws.{one-line-on, on-after}
 use Rattle.calling.specs.Contract.{stepOf, Now}
 use Rattle.calling.proofs.Laws.{bytes-long, both-long}
 use Rattle.calling.proofs.Promises.{whole, same-answered, same-state, long-again}

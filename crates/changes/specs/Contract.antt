@@ -16,7 +16,8 @@ use Rattle.port.specs.State.{places}
 use Rattle.port.specs.Contract.{refused}
 use Rattle.port.specs.declared.Port.{Port}
 use Rattle.port.specs.declared.Answered.{Answered}
-use Rattle.switching.specs.Contract.{GoesOff, GoesOn}
+use Rattle.switching.specs.Contract.{GoesOff}
+use Rattle.joining.specs.Contract.{GoesOn}
 
 -- What becomes of the stored input. ICANON before, ICANON after.
 abbrev pub Changes : Bool → Bool → Input → List ℕ → List ℕ → Input → List ℕ → List ℕ → Type 0

@@ -26,7 +26,7 @@ fn change_input(i: Input, bytes: &mut [u8], marks: &mut [u8], was: bool, is: boo
         return switching::without_marks(i, bytes, marks);
     }
     if is {
-        return switching::one_line(i, marks);
+        return joining::one_line(i, marks);
     }
     i
 }

@@ -1,11 +1,9 @@
 -- The units of the current line before a place, and what each function promises of them. On the right of each equation
 -- stand values at entry only.
-use Prim.Native.Nat.{ℕ, _+_, _/_, _%_, _<_, _≤_}
+use Prim.Native.Nat.{ℕ, _+_, _<_, _≤_}
 use mathlib.Core.Path.{_≡_}
-use mathlib.Core.Bool.{Bool, not, _&&_, _||_}
 use mathlib.Core.List.{List, _∷_}
 use lib.ListN.{length, getD, take, drop}
-use lib.Dec.{eqb}
 use Rattle.queue.specs.Queue.{held}
 use Rattle.rules.specs.Sizes.{Place}
 use Rattle.rules.specs.Editing.{units, withoutUnits}
@@ -51,8 +49,3 @@ pub record Removes (i : Input) (bs ms : List ℕ) (n : ℕ) (r : Run) : Type 0 w
   pub high : r .at ≤ i .queue .len
   pub count : r .units ≡ n
   pub line : lineTo i bs ms (r .at) ≡ withoutUnits n (get i bs ms .current)
-
--- REPRINT shows the byte at place k: it is the first of a unit of the current line, and the unit had an echo.
-abbrev pub showsAt : Input → List ℕ → ℕ → Bool
-showsAt i ms k =
-    not (eqb (getD (held (i .queue) ms) k 0 / 8 % 2) 1) && (eqb k (i .ready) || eqb (getD (held (i .queue) ms) k 0 % 2) 1)

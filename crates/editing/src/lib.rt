@@ -1,12 +1,12 @@
 // Document 01, 'Editing': how many units of the current line ERASE and KILL remove, and where these begin. Walks go
-// back over the current line alone. REPRINT goes forward over it, place by place.
+// back over the current line alone.
 ghost use mathlib.Core.Path.{_≡_};
 ghost use mathlib.Core.List.{List};
 ghost use Prim.Native.Nat.{ℕ, _<_, min};
 ghost use lib.ListN.{length};
 ghost use Rattle.rules.specs.Editing.{units};
 ghost use Rattle.input.specs.Contract.{get, Within};
-ghost use Rattle.editing.specs.Contract.{unitsTo, Line, Starts, Cuts, Removes, showsAt};
+ghost use Rattle.editing.specs.Contract.{unitsTo, Line, Starts, Cuts, Removes};
 use input::Input;
 
 // A run of units before a place: where it begins, and how many it has.
@@ -70,19 +70,4 @@ pub fn whole_line(i: Input, marks: &[u8]) -> Run
         at: begin,
         units: count,
     }
-}
-
-// place k begins a unit of the current line that is not silent: REPRINT shows its byte
-pub fn is_shown(i: Input, marks: &[u8], k: usize) -> bool
-    ensures { λ r. ⌜ r ≡ showsAt i (now (marks .entry)) k ⌝ }
-{
-    let q = i.queue;
-    let m = q.at(marks, k);
-    if marks::silent(m) {
-        return false;
-    }
-    if k == i.ready {
-        return true;
-    }
-    marks::starts(m)
 }

@@ -7,8 +7,7 @@ use Rattle.rules.specs.Received.{editOn}
 use Rattle.meaning.specs.Meaning.{editOf}
 use Rattle.meaning.specs.declared.Edit.{Edit as Coded}
 use Rattle.port.specs.declared.Port.{Port}
-use Rattle.assembling.specs.Contract.{state, sizesOf, Becomes}
-use Rattle.erasing.specs.Contract.{unitsOf}
+use Rattle.assembling.specs.Contract.{state, sizesOf, Becomes, unitsOf}
 
 -- in the arm of one edit
 pub edited-by : {e k : Coded} (p r : Port) (bs ms os os′ : List ℕ) (b : ℕ) → e ≡ k

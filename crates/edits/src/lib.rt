@@ -2,8 +2,7 @@
 ghost use lib.ListN.{length};
 ghost use Rattle.rules.specs.Received.{editOn};
 ghost use Rattle.meaning.specs.Meaning.{editOf};
-ghost use Rattle.assembling.specs.Contract.{Ready, Becomes, state, sizesOf};
-ghost use Rattle.erasing.specs.Contract.{unitsOf};
+ghost use Rattle.assembling.specs.Contract.{Ready, Becomes, state, sizesOf, unitsOf};
 use meaning::Edit;
 use port::Port;
 
@@ -28,6 +27,6 @@ pub fn edit(p: Port, bytes: &[u8], marks: &[u8], out: &mut [u8], e: Edit, b: u8)
             let run = editing::whole_line(i, marks);
             erasing::kills(p, n, out, b, run)
         }
-        Edit::Reprint => erasing::reprints(p, bytes, marks, out, b),
+        Edit::Reprint => reshowing::reprints(p, bytes, marks, out, b),
     }
 }

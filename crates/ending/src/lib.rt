@@ -1,8 +1,7 @@
-// Document 01, 'Received events': what ends a line is stored, if it fits: a delimiter with its echo, an end-of-file mark.
-ghost use mathlib.Core.List.{[]};
+// Document 01, 'Received events': a delimiter is stored, if it fits, with its echo.
 ghost use lib.ListN.{length};
 ghost use Rattle.rules.specs.Fit as fit;
-ghost use Rattle.rules.specs.Sizes.{delimiter, endOfFile};
+ghost use Rattle.rules.specs.Sizes.{delimiter};
 ghost use Rattle.rules.specs.Echo as echo;
 ghost use Rattle.assembling.specs.Contract.{Becomes, Ready, state, sizesOf};
 use port::Port;
@@ -16,25 +15,9 @@ pub fn ends(p: Port, bytes: &mut [u8], marks: &mut [u8], out: &mut [u8], b: u8) 
     let i = p.input;
     let n = bytes.len();
     if fitting::end_fits(i, n) {
-        let input = places::end(i, bytes, marks, b);
+        let input = closing::end(i, bytes, marks, b);
         let o = p.output;
         let output = showing::of_stored(o, x, out, b);
-        return flushing::stored(p, input, output);
-    }
-    flushing::overflow(p, n, out)
-}
-
-// 'a non-literal EOF stores a mark that ends it, without echo'
-pub fn marks_end(p: Port, bytes: &mut [u8], marks: &mut [u8], out: &mut [u8]) -> Port
-    requires { ⌜ Ready p (now bytes) (now marks) (now out) ⌝ }
-    ensures { λ r. ⌜ Becomes p (now (bytes .entry)) (now (marks .entry)) (now (out .entry)) (fit.storesEnd (sizesOf p (length (now (bytes .entry))) (length (now (out .entry)))) (state p (now (bytes .entry)) (now (marks .entry)) (now (out .entry))) endOfFile []) r (now (bytes .exit)) (now (marks .exit)) (now (out .exit)) ⌝ }
-{
-    let x = p.settings;
-    let i = p.input;
-    let n = bytes.len();
-    if fitting::end_fits(i, n) {
-        let input = places::end_of_file(i, bytes, marks);
-        let output = p.output;
         return flushing::stored(p, input, output);
     }
     flushing::overflow(p, n, out)

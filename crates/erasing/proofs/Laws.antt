@@ -8,7 +8,7 @@ use lib.ListN.{length}
 use lib.Dec.{leb}
 use borrow.Author.Tests.{leb-true, leb-false}
 use Rattle.rules.specs.Sizes.{Sizes, State, Place, withInput}
-use Rattle.rules.specs.Editing.{Edit, reprint, units, placesOf, removed, edited}
+use Rattle.rules.specs.Editing.{Edit, units, placesOf, removed, edited}
 use Rattle.rules.specs.Echo.{shown, editEcho}
 use Rattle.rules.specs.Received.{editOn}
 use Rattle.input.specs.Contract as input
@@ -20,10 +20,10 @@ use Rattle.editing.specs.declared.Run.{Run}
 use Rattle.editing.proofs.Laws.{places-units, edited-becomes}
 use Rattle.port.specs.State.{withOutput}
 use Rattle.port.specs.declared.Port.{Port}
-use Rattle.assembling.specs.Contract.{state, sizesOf, Ranged, Ready, Becomes}
+use Rattle.assembling.specs.Contract.{state, sizesOf, unitsOf, Ranged, Ready, Becomes}
 use Rattle.assembling.proofs.Laws.{as-state, as-assembled, output-stays, stays}
 use Rattle.flushing.proofs.Laws.{then-shown}
-use Rattle.erasing.specs.Contract.{unitsOf, without, Edited}
+use Rattle.erasing.specs.Contract.{without, Edited}
 
 no-places : (l : List Place) → length l ≤ 0 → l ≡ []
 no-places [] le = refl
@@ -86,29 +86,3 @@ module _ (p : Port) (n : ℕ) (os : List ℕ) (g : Ranged p n (length os)) (run 
       (then-shown p q r bs ms os os′ (editEcho (p .settings) e b (removed (p .settings) e us) us) w o n (as-assembled p (without p run) q bs ms os bs ms os w eq cut)
       (get-room (p .output) os)
       (subst (λ (y : List ℕ). Echoes (p .settings) (q .output) os y o os′) bytes k) er)
-
--- the numbers are in range of the marks' slice too
-pub within-marks : (p : Port) (bs ms os : List ℕ) → Ready p bs ms os → input.Within (p .input) (length ms)
-within-marks p bs ms os g = subst (input.Within (p .input)) (g .same) (g .ranged .input)
-
----- REPRINT
-
--- the line stays as it is
-same-line : (s : State) → withInput s (edited (s .settings) reprint (s .input)) ≡ s
-same-line s =
-    ap (λ (l : List Place). withInput s (record { finished = s .input .finished; current = l; literalNext = s .input .literalNext }))
-    (places-units (s .input .current))
-
-reprint-shows : (us : List (List Place)) (z : Sizes) (s : State) (b : ℕ) → shown z s (editEcho (s .settings) reprint b 0 us) ≡ editOn us z s reprint b
-reprint-shows [] z s b = refl
-reprint-shows (u ∷ us) z s b = ap (λ (y : State). shown z y (editEcho (s .settings) reprint b 0 (u ∷ us))) (sym (same-line s))
-
-pub reprinted : (p r : Port) (bs ms os os′ : List ℕ) (b : ℕ) (o : Output) → Ready p bs ms os
-    → Echoes (p .settings) (p .output) os (editEcho (p .settings) reprint b 0 (unitsOf p bs ms)) o os′ → r ≡ withOutput p o
-    → Becomes p bs ms os (editOn (unitsOf p bs ms) (sizesOf p (length bs) (length os)) (state p bs ms os) reprint b) r bs ms os′
-reprinted p r bs ms os os′ b o g k er =
-    let z : Sizes = sizesOf p (length bs) (length os) in
-    let s : State = state p bs ms os in
-    let e : List ℕ = editEcho (p .settings) reprint b 0 (unitsOf p bs ms) in
-    as-state p r bs ms os bs ms os′ (shown z s e) (editOn (unitsOf p bs ms) z s reprint b) (reprint-shows (unitsOf p bs ms) z s b)
-    (then-shown p p r bs ms os os′ e s o (length bs) (stays p bs ms os g) (get-room (p .output) os) k er)

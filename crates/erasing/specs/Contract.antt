@@ -1,20 +1,15 @@
--- What ERASE, WERASE, KILL and REPRINT promise of a port.
+-- What ERASE, WERASE and KILL promise of a port.
 use Prim.Native.Nat.{ℕ}
 use mathlib.Core.Path.{_≡_}
 use mathlib.Core.List.{List}
 use lib.ListN.{length}
-use Rattle.rules.specs.Sizes.{Place}
-use Rattle.rules.specs.Editing.{Edit, units, removed}
+use Rattle.rules.specs.Editing.{Edit, removed}
 use Rattle.rules.specs.Received.{editOn}
-use Rattle.input.specs.Contract.{get, shortened}
+use Rattle.input.specs.Contract.{shortened}
 use Rattle.editing.specs.Contract.{Removes}
 use Rattle.editing.specs.declared.Run.{Run}
 use Rattle.port.specs.declared.Port.{Port}
-use Rattle.assembling.specs.Contract.{state, sizesOf, assembled, Becomes}
-
--- the units of the current line
-abbrev pub unitsOf : Port → List ℕ → List ℕ → List (List Place)
-unitsOf p bs ms = units (get (p .input) bs ms .current)
+use Rattle.assembling.specs.Contract.{state, sizesOf, unitsOf, assembled, Becomes}
 
 -- the port with its line cut where the run begins
 abbrev pub without : Port → Run → Port

@@ -1,12 +1,11 @@
-// Document 01, 'Editing' and its echo, on a port: a run of units is erased or killed, the line is shown again.
+// Document 01, 'Editing' and its echo, on a port: a run of units is erased or killed.
 ghost use mathlib.Core.Path.{_≡_};
 ghost use lib.ListN.{length};
 ghost use lib.Dec.{leb};
-ghost use Rattle.rules.specs.Editing.{erase, wordErase, kill, reprint};
-ghost use Rattle.rules.specs.Received.{editOn};
+ghost use Rattle.rules.specs.Editing.{erase, wordErase, kill};
 ghost use Rattle.input.specs.Contract.{Within};
-ghost use Rattle.assembling.specs.Contract.{Ranged, Ready, Becomes, state, sizesOf};
-ghost use Rattle.erasing.specs.Contract.{without, Edited, unitsOf};
+ghost use Rattle.assembling.specs.Contract.{Ranged};
+ghost use Rattle.erasing.specs.Contract.{without, Edited};
 use editing::Run;
 use input::Input;
 use port::Port;
@@ -61,16 +60,4 @@ pub fn kills(p: Port, n: usize, out: &mut [u8], b: u8, run: Run) -> Port
     let o = q.output;
     let output = showing::of_killed(o, x, out, b, run.units);
     q.with_output(output)
-}
-
-// REPRINT: the line stays, and is shown again
-pub fn reprints(p: Port, bytes: &[u8], marks: &[u8], out: &mut [u8], b: u8) -> Port
-    requires { ⌜ Ready p (now bytes) (now marks) (now out) ⌝ }
-    ensures { λ r. ⌜ Becomes p (now (bytes .entry)) (now (marks .entry)) (now (out .entry)) (editOn (unitsOf p (now (bytes .entry)) (now (marks .entry))) (sizesOf p (length (now (bytes .entry))) (length (now (out .entry)))) (state p (now (bytes .entry)) (now (marks .entry)) (now (out .entry))) reprint b) r (now (bytes .entry)) (now (marks .entry)) (now (out .exit)) ⌝ }
-{
-    let x = p.settings;
-    let i = p.input;
-    let o = p.output;
-    let output = reprinting::of_reprinted(o, x, i, bytes, marks, out, b);
-    p.with_output(output)
 }

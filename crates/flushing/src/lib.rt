@@ -44,6 +44,6 @@ pub fn stored(p: Port, input: Input, output: Output) -> Port
 {
     let x = p.settings;
     let waiting = p.waiting;
-    let w = timing::timer_stored(timing::between_bytes(x), x, waiting);
+    let w = restarting::timer_stored(timing::between_bytes(x), x, waiting);
     assembling::assemble(p, input, output, w)
 }

@@ -19,7 +19,7 @@ fn tells(m: Meaning, f: Group) -> Outcome
 {
     match m {
         Meaning::LiteralNext => Outcome::Ok,
-        Meaning::Signals(g, _) => groups::reported(g, f),
+        Meaning::Signals(g, _) => reporting::reported(g, f),
         Meaning::Stops => Outcome::Ok,
         Meaning::Starts => Outcome::Ok,
         Meaning::Drops => Outcome::Ok,

@@ -34,24 +34,6 @@ impl Port {
 
     pub const OUTPUT: usize = 2048;
 
-    // 'A fresh port holds no byte, column 0, no foreground group, default settings.'
-    pub fn fresh() -> Port
-        ensures { λ r. ⌜ r ≡ promise.fresh ⌝ }
-    {
-        let settings = settings::defaults();
-        let input = Input::fresh();
-        let output = Output::fresh();
-        Port {
-            settings: settings,
-            line: Port::LINE,
-            input: input,
-            output: output,
-            foreground: Group::Nobody,
-            hung: false,
-            waiting: Waiting::Idle,
-        }
-    }
-
     pub fn with_output(self, output: Output) -> Port
         ensures { λ r. ⌜ r ≡ withOutput self output ⌝ }
     {

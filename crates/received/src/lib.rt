@@ -26,7 +26,7 @@ fn quiet(p: Port) -> Reported
 fn reports(p: Port, g: Signal, f: Group) -> Reported
     ensures { λ r. ⌜ r ≡ record { port = p; outcome = steps.reported g f } ⌝ }
 {
-    let outcome = groups::reported(g, f);
+    let outcome = reporting::reported(g, f);
     Reported {
         port: p,
         outcome: outcome,
@@ -50,7 +50,7 @@ fn ticks(p: Port) -> Port
     let input = p.input;
     let output = p.output;
     let old = p.waiting;
-    let w = timer::lowered(old);
+    let w = expiring::lowered(old);
     assembling::assemble(p, input, output, w)
 }
 
@@ -92,7 +92,7 @@ pub fn received(p: Port, bytes: &mut [u8], marks: &mut [u8], out: &mut [u8], e: 
     match a {
         Arrival::Nothing => quiet(p),
         Arrival::Good(b) => goodbyte::good(p, bytes, marks, out, b),
-        Arrival::Silent(u) => quiet(storing::silently(p, bytes, marks, out, u)),
+        Arrival::Silent(u) => quiet(unechoed::silently(p, bytes, marks, out, u)),
         Arrival::Interrupt => interrupts(p, bytes.len(), out),
         Arrival::Tick => quiet(ticks(p)),
         Arrival::Hangup => hangs_up(p, bytes.len(), out),

@@ -24,8 +24,10 @@ use Rattle.echo.specs.Contract.{echoed, Echoes, ExtendsBy}
 use Rattle.echo.proofs.Laws.{shows-as, shows-none}
 use Rattle.input.specs.Contract.{get as input, Within}
 use Rattle.input.specs.declared.Input.{Input}
-use Rattle.editing.specs.Contract.{showsAt, unitsTo}
-use Rattle.editing.proofs.Laws.{echo-next, units-none, units-whole}
+use Rattle.editing.specs.Contract.{unitsTo}
+use Rattle.shown.specs.Contract.{showsAt}
+use Rattle.editing.proofs.Laws.{units-none, units-whole}
+use Rattle.shown.proofs.Laws.{echo-next}
 use Rattle.reprinting.specs.Contract.{placeEcho, reprinted, needed}
 
 ---- One place

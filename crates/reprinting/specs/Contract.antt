@@ -9,7 +9,8 @@ use Rattle.rules.specs.Output.{processed}
 use Rattle.rules.specs.Echo.{visible, lineEcho}
 use Rattle.output.specs.declared.Output.{Output}
 use Rattle.input.specs.declared.Input.{Input}
-use Rattle.editing.specs.Contract.{showsAt, unitsTo}
+use Rattle.editing.specs.Contract.{unitsTo}
+use Rattle.shown.specs.Contract.{showsAt}
 
 -- what place k shows
 abbrev pub placeEcho : Settings → Input → List ℕ → List ℕ → ℕ → List ℕ

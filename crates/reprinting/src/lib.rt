@@ -17,7 +17,7 @@ use rules::Settings;
 fn measured(m: Measure, x: Settings, i: Input, bytes: &[u8], marks: &[u8], k: usize) -> Measure
     ensures { λ r. ⌜ ExtendsBy x m (placeEcho x i (now (bytes .entry)) (now (marks .entry)) k) r ⌝ }
 {
-    if editing::is_shown(i, marks, k) {
+    if shown::is_shown(i, marks, k) {
         let q = i.queue;
         let b = q.at(bytes, k);
         return echo::measured(m, x, b);
@@ -56,7 +56,7 @@ fn shown(
 ) -> Output
     ensures { λ r. ⌜ Echoes x o (now (out .entry)) (placeEcho x i (now (bytes .entry)) (now (marks .entry)) k) r (now (out .exit)) ⌝ }
 {
-    if editing::is_shown(i, marks, k) {
+    if shown::is_shown(i, marks, k) {
         let q = i.queue;
         let again = q.at(bytes, k);
         return echo::show(o, x, out, again);

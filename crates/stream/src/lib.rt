@@ -23,7 +23,7 @@ impl Stream {
     pub fn start() -> Stream
         ensures { λ r. ⌜ r ≡ beginning ⌝ }
     {
-        let port = Port::fresh();
+        let port = fresh::fresh_port();
         Stream {
             port: port,
             index: 0,

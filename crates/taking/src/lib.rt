@@ -20,10 +20,10 @@ fn finds(x: Settings, finished: usize, w: Waiting, n: usize) -> bool
     if x.icanon {
         return finished > 0;
     }
-    if waiting::enough(x, n, finished) {
+    if sufficing::enough(x, n, finished) {
         return true;
     }
-    timer::expired(w)
+    expiring::expired(w)
 }
 
 // 'Non-blocking takes that at once .. or gives refusal 3 if no byte is stored; canonical, if no line is finished. Otherwise the

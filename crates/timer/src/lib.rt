@@ -1,10 +1,7 @@
-// Document 01, 'Reads': the timer of a waiting read, tick by tick.
+// Document 01, 'Reads': a timer, a tenth of a second later.
 ghost use mathlib.Core.Path.{_≡_};
 ghost use Prim.Native.Nat.{_-_};
-ghost use Rattle.rules.specs.Received as received;
-ghost use Rattle.rules.specs.Reads as read;
 use rules::Timer;
-use rules::Waiting;
 
 // at zero it stays
 fn one_less(left: u8) -> u8
@@ -30,28 +27,4 @@ pub fn lower(t: Timer) -> Timer
     let mut u = t;
     tick(&mut u);
     u
-}
-
-// 'While a read waits, each tenth of a second lowers it by one.'
-pub fn lowered(w: Waiting) -> Waiting
-    ensures { λ r. ⌜ r ≡ received.lowered w ⌝ }
-{
-    match w {
-        Waiting::Idle => Waiting::Idle,
-        Waiting::Untimed { count } => Waiting::Untimed { count },
-        Waiting::Timed { count, timer } => Waiting::Timed {
-            count,
-            timer: lower(timer),
-        },
-    }
-}
-
-pub fn expired(w: Waiting) -> bool
-    ensures { λ r. ⌜ r ≡ read.expired w ⌝ }
-{
-    match w {
-        Waiting::Idle => false,
-        Waiting::Untimed { count: _ } => false,
-        Waiting::Timed { count: _, timer } => timer.left == 0,
-    }
 }

@@ -1,4 +1,4 @@
-// Document 01, 'Reads': when a read waits, and when what is stored is enough for it.
+// Document 01, 'Reads': the waiting read, as it begins and as it goes on.
 ghost use mathlib.Core.Path.{_≡_};
 ghost use mathlib.Core.Bool.{_||_};
 ghost use mathlib.Core.List.{List};
@@ -9,32 +9,6 @@ ghost use Rattle.rules.specs.Sizes.{Place};
 ghost use Rattle.rules.specs.Reads as read;
 use rules::Settings;
 use rules::Waiting;
-
-fn least(a: usize, b: usize) -> usize
-    ensures { λ r. ⌜ r ≡ min a b ⌝ }
-{
-    if a < b {
-        return a;
-    }
-    b
-}
-
-fn wide(b: u8) -> usize
-    ensures { λ r. ⌜ r ≡ b ⌝ }
-{
-    b as usize
-}
-
-// 'Noncanonical, n requested: done when min(MIN, n) bytes are stored, or, for MIN 0, when one is. MIN and TIME both 0: at
-// once, 0 if empty.'
-pub fn enough(x: Settings, n: usize, stored: usize) -> bool
-    ensures { λ r. ⌜ r ≡ read.enough x n stored ⌝ }
-{
-    if x.min == 0 {
-        return x.time == 0 || stored > 0;
-    }
-    least(wide(x.min), n) <= stored
-}
 
 // MIN 0, or a byte is stored
 fn starts(x: Settings, stored: usize) -> bool
@@ -55,7 +29,7 @@ pub fn begins(x: Settings, stored: usize, n: usize) -> Waiting
         return Waiting::Untimed { count: n };
     }
     if starts(x, stored) {
-        return timing::started(x, n);
+        return restarting::started(x, n);
     }
     Waiting::Untimed { count: n }
 }

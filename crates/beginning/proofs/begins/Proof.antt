@@ -8,12 +8,6 @@ use Rattle.stopping.specs.Contract.{literalTo, stopTo}
 use borrow.Author.Needs.{needs}
 use Rattle.beginning.proofs.begins.Statement.{statement}
 use Rattle.beginning.proofs.begins.Tie as tie
-use Rattle.beginning.proofs.begins.Reads as reads
-use Rattle.beginning.proofs.begins.Lts as lts
-use Rattle.input.proofs.Input.with_literal.Reads as with-literal-reads
-use Rattle.output.proofs.Output.stop.Reads as stop-reads
-use Rattle.beginning.proofs.resumes.Reads as resumes-reads
-use Rattle.assembling.proofs.assemble.Reads as assemble-reads
 
 with-literal-requires : tie.Need-with-literal-requires
 with-literal-requires c κs = search needs

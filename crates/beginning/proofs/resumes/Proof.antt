@@ -4,8 +4,6 @@ use mathlib.Core.Bool.{Bool, _&&_}
 use Rattle.beginning.proofs.Laws.{resumes-both, resumes-not}
 use Rattle.beginning.proofs.resumes.Statement.{statement}
 use Rattle.beginning.proofs.resumes.Tie as tie
-use Rattle.beginning.proofs.resumes.Reads as reads
-use Rattle.beginning.proofs.resumes.Lts as lts
 
 returns : tie.Need-returns
 returns c = resumes-both ((c .before .before .args .x)) ((c .before .before .args .stopped)) (c .before .if1 .taken) (c .if2 .taken)

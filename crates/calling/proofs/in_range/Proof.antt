@@ -7,11 +7,6 @@ use Rattle.assembling.specs.Contract.{assembled}
 use borrow.Author.Needs.{needs}
 use Rattle.calling.proofs.in_range.Statement.{statement}
 use Rattle.calling.proofs.in_range.Tie as tie
-use Rattle.calling.proofs.in_range.Reads as reads
-use Rattle.calling.proofs.in_range.Lts as lts
-use Rattle.input.proofs.Input.fit.Reads as Input-fit-reads
-use Rattle.output.proofs.Output.fit.Reads as Output-fit-reads
-use Rattle.assembling.proofs.assemble.Reads as assemble-reads
 
 fit-requires : tie.Need-fit-requires
 fit-requires c κs = search needs

@@ -3,10 +3,6 @@ use Rattle.calls.proofs.Laws.{cancel-of}
 use borrow.Author.Needs.{needs}
 use Rattle.calls.proofs.cancel.Statement.{statement}
 use Rattle.calls.proofs.cancel.Tie as tie
-use Rattle.calls.proofs.cancel.Reads as reads
-use Rattle.calls.proofs.cancel.Lts as lts
-use Rattle.port.proofs.says.Reads as says-reads
-use Rattle.assembling.proofs.assemble.Reads as assemble-reads
 
 assemble-requires : tie.Need-assemble-requires
 assemble-requires c κs = search needs

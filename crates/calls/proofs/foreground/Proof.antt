@@ -3,12 +3,6 @@ use Rattle.calls.proofs.Laws.{group-refused, group-set}
 use borrow.Author.Needs.{needs}
 use Rattle.calls.proofs.foreground.Statement.{statement}
 use Rattle.calls.proofs.foreground.Tie as tie
-use Rattle.calls.proofs.foreground.Reads as reads
-use Rattle.calls.proofs.foreground.Lts as lts
-use Rattle.port.proofs.says.Reads as says-reads
-use Rattle.calls.proofs.with_group.Reads as with-group-reads
-use Rattle.groups.proofs.group_of.Reads as group-of-reads
-use Rattle.groups.proofs.too_large.Reads as too-large-reads
 
 too-large-requires : tie.Need-too-large-requires
 too-large-requires c κs = search needs

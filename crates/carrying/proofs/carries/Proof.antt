@@ -9,15 +9,6 @@ use Rattle.stopping.proofs.Laws.{literal-of, stopped-of}
 use borrow.Author.Needs.{needs}
 use Rattle.carrying.proofs.carries.Statement.{statement}
 use Rattle.carrying.proofs.carries.Tie as tie
-use Rattle.carrying.proofs.carries.Reads as reads
-use Rattle.carrying.proofs.carries.Lts as lts
-use Rattle.edits.proofs.edit.Reads as edit-reads
-use Rattle.stopping.proofs.sets_literal.Reads as sets-literal-reads
-use Rattle.signalling.proofs.signals.Reads as signals-reads
-use Rattle.stopping.proofs.stopped_to.Reads as stopped-to-reads
-use Rattle.ending.proofs.ends.Reads as ends-reads
-use Rattle.ending.proofs.marks_end.Reads as marks-end-reads
-use Rattle.storing.proofs.stores.Reads as stores-reads
 
 enum-told : tie.Need-enum-told
 enum-told c = search needs

@@ -3,8 +3,6 @@ use borrow.Author.Tests.{lt-ltb, le-ltb}
 use borrow.Author.Needs.{needs}
 use Rattle.columns.proofs.cap.Statement.{statement}
 use Rattle.columns.proofs.cap.Tie as tie
-use Rattle.columns.proofs.cap.Reads as reads
-use Rattle.columns.proofs.cap.Lts as lts
 
 returns : tie.Need-returns
 returns c = simp (lt-ltb _ _ (c .if1 .taken))

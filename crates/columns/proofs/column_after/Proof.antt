@@ -7,10 +7,6 @@ use mathlib.Core.Path.{sym, ap, _∙_}
 use borrow.Author.Needs.{needs}
 use Rattle.columns.proofs.column_after.Statement.{statement}
 use Rattle.columns.proofs.column_after.Tie as tie
-use Rattle.columns.proofs.column_after.Reads as reads
-use Rattle.columns.proofs.column_after.Lts as lts
-use Rattle.columns.proofs.column_after_spaces.Reads as column-after-spaces-reads
-use Rattle.columns.proofs.next_column.Reads as next-column-reads
 
 enum-told : tie.Need-enum-told
 enum-told c = search needs

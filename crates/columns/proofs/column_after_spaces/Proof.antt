@@ -9,9 +9,6 @@ use Rattle.rules.specs.Output.{columnsAfter}
 use mathlib.Core.Path.{_≡_, refl, ap, _∙_}
 use Rattle.columns.proofs.column_after_spaces.Statement.{statement}
 use Rattle.columns.proofs.column_after_spaces.Tie as tie
-use Rattle.columns.proofs.column_after_spaces.Reads as reads
-use Rattle.columns.proofs.column_after_spaces.Lts as lts
-use Rattle.columns.proofs.next_column.Reads as next-column-reads
 
 abbrev Inv-loop : tie.InvT-loop
 Inv-loop x c n column₀ i₀ column i = (i ≤ n) × (column ≡ columnsAfter x c (replicate i 32))

@@ -2,9 +2,6 @@
 use borrow.Author.Needs.{needs}
 use Rattle.columns.proofs.newline_column.Statement.{statement}
 use Rattle.columns.proofs.newline_column.Tie as tie
-use Rattle.columns.proofs.newline_column.Reads as reads
-use Rattle.columns.proofs.newline_column.Lts as lts
-use Rattle.columns.proofs.cap.Reads as cap-reads
 
 returns : tie.Need-returns
 returns c = simp (c .before .if1 .taken, c .if2 .taken)

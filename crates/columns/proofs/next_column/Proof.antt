@@ -6,10 +6,6 @@ use borrow.Author.Tests.{eq-eqb, ne-eqb, lt-ltb, le-ltb}
 use borrow.Author.Needs.{needs}
 use Rattle.columns.proofs.next_column.Statement.{statement}
 use Rattle.columns.proofs.next_column.Tie as tie
-use Rattle.columns.proofs.next_column.Reads as reads
-use Rattle.columns.proofs.next_column.Lts as lts
-use Rattle.columns.proofs.cap.Reads as cap-reads
-use Rattle.columns.proofs.newline_column.Reads as newline-column-reads
 
 returns : tie.Need-returns
 unfolding columnAfter

@@ -3,11 +3,6 @@ use Rattle.completing.proofs.Laws.{complete-as}
 use borrow.Author.Needs.{needs}
 use Rattle.completing.proofs.complete.Statement.{statement}
 use Rattle.completing.proofs.complete.Tie as tie
-use Rattle.completing.proofs.complete.Reads as reads
-use Rattle.completing.proofs.complete.Lts as lts
-use Rattle.queue.proofs.least.Reads as least-reads
-use Rattle.bodies.proofs.two.Reads as two-reads
-use Rattle.trace.proofs.record.Reads as record-reads
 
 shared-slice-read-two : tie.Need-shared-slice-read-two
 shared-slice-read-two c = search needs

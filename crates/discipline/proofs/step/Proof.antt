@@ -4,19 +4,6 @@ use Rattle.discipline.proofs.Laws.{called, steps-set, steps-receive, st
 use borrow.Author.Needs.{needs}
 use Rattle.discipline.proofs.step.Statement.{statement}
 use Rattle.discipline.proofs.step.Tie as tie
-use Rattle.discipline.proofs.step.Reads as reads
-use Rattle.discipline.proofs.step.Lts as lts
-use Rattle.calls.proofs.cancel.Reads as cancel-reads
-use Rattle.flushes.proofs.flush.Reads as flush-reads
-use Rattle.calls.proofs.foreground.Reads as foreground-reads
-use Rattle.judging.proofs.read_verdict.Reads as read-verdict-reads
-use Rattle.judging.proofs.settings_verdict.Reads as settings-verdict-reads
-use Rattle.judging.proofs.write_verdict.Reads as write-verdict-reads
-use Rattle.changes.proofs.set.Reads as set-reads
-use Rattle.receiving.proofs.receive.Reads as receive-reads
-use Rattle.writing.proofs.transmit.Reads as transmit-reads
-use Rattle.writing.proofs.write.Reads as write-reads
-use Rattle.reads.proofs.read.Reads as read-reads
 
 enum-known-call : tie.Need-enum-known-call
 enum-known-call c = search needs

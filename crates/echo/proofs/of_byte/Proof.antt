@@ -5,10 +5,6 @@ use mathlib.Core.List.{[]}
 use borrow.Author.Needs.{needs}
 use Rattle.echo.proofs.of_byte.Statement.{statement}
 use Rattle.echo.proofs.of_byte.Tie as tie
-use Rattle.echo.proofs.of_byte.Reads as reads
-use Rattle.echo.proofs.of_byte.Lts as lts
-use Rattle.echo.proofs.show.Reads as show-reads
-use Rattle.output.proofs.Output.fit.Reads as fit-reads
 
 show-requires : tie.Need-show-requires
 show-requires c κs = search needs

@@ -7,10 +7,6 @@ use mathlib.Core.Path.{sym, ap, _∙_}
 use borrow.Author.Needs.{needs}
 use Rattle.echo.proofs.show.Statement.{statement}
 use Rattle.echo.proofs.show.Tie as tie
-use Rattle.echo.proofs.show.Reads as reads
-use Rattle.echo.proofs.show.Lts as lts
-use Rattle.echo.proofs.visible.Reads as visible-reads
-use Rattle.queuing.proofs.show.Reads as show-reads
 
 visible-requires : tie.Need-visible-requires
 visible-requires c κs = search needs

@@ -8,10 +8,6 @@ use mathlib.Core.Path.{sym, ap, _∙_}
 use borrow.Author.Needs.{needs}
 use Rattle.echo.proofs.show_line.Statement.{statement}
 use Rattle.echo.proofs.show_line.Tie as tie
-use Rattle.echo.proofs.show_line.Reads as reads
-use Rattle.echo.proofs.show_line.Lts as lts
-use Rattle.echo.proofs.visible.Reads as visible-reads
-use Rattle.queuing.proofs.show.Reads as show-reads
 
 visible-requires : tie.Need-visible-requires
 visible-requires c κs = search needs

@@ -3,8 +3,6 @@ use Rattle.echo.proofs.Laws.{visible-caret, visible-plain}
 use borrow.Author.Needs.{needs}
 use Rattle.echo.proofs.visible.Statement.{statement}
 use Rattle.echo.proofs.visible.Tie as tie
-use Rattle.echo.proofs.visible.Reads as reads
-use Rattle.echo.proofs.visible.Lts as lts
 
 returns : tie.Need-returns
 returns c = rw (c .before .if1 .taken, c .if2 .taken)

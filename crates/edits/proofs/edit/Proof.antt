@@ -1,18 +1,10 @@
 -- `edits::edit` meets its contract. Assumes nothing.
 use mathlib.Core.Path.{refl, sym}
-use Rattle.erasing.proofs.Laws.{within-marks}
+use Rattle.assembling.proofs.Laws.{within-marks}
 use Rattle.edits.proofs.Laws.{edited-by}
 use borrow.Author.Needs.{needs}
 use Rattle.edits.proofs.edit.Statement.{statement}
 use Rattle.edits.proofs.edit.Tie as tie
-use Rattle.edits.proofs.edit.Reads as reads
-use Rattle.edits.proofs.edit.Lts as lts
-use Rattle.editing.proofs.last_unit.Reads as last-unit-reads
-use Rattle.words.proofs.last_word.Reads as last-word-reads
-use Rattle.editing.proofs.whole_line.Reads as whole-line-reads
-use Rattle.erasing.proofs.erases.Reads as erases-reads
-use Rattle.erasing.proofs.kills.Reads as kills-reads
-use Rattle.erasing.proofs.reprints.Reads as reprints-reads
 
 enum-told : tie.Need-enum-told
 enum-told c = search needs

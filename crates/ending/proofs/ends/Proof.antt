@@ -5,13 +5,6 @@ use Rattle.rules.specs.Echo as echo
 use borrow.Author.Needs.{needs}
 use Rattle.ending.proofs.ends.Statement.{statement}
 use Rattle.ending.proofs.ends.Tie as tie
-use Rattle.ending.proofs.ends.Reads as reads
-use Rattle.ending.proofs.ends.Lts as lts
-use Rattle.showing.proofs.of_stored.Reads as of-stored-reads
-use Rattle.places.proofs.end.Reads as end-reads
-use Rattle.fitting.proofs.end_fits.Reads as end-fits-reads
-use Rattle.flushing.proofs.overflow.Reads as overflow-reads
-use Rattle.flushing.proofs.stored.Reads as stored-reads
 
 end-fits-requires : tie.Need-end-fits-requires
 end-fits-requires c κs = search needs

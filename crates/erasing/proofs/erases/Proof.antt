@@ -6,12 +6,6 @@ use Rattle.erasing.proofs.Laws.{nothing-edited, removed-shown}
 use borrow.Author.Needs.{needs}
 use Rattle.erasing.proofs.erases.Statement.{statement}
 use Rattle.erasing.proofs.erases.Tie as tie
-use Rattle.erasing.proofs.erases.Reads as reads
-use Rattle.erasing.proofs.erases.Lts as lts
-use Rattle.showing.proofs.of_erased.Reads as of-erased-reads
-use Rattle.erasing.proofs.line_empty.Reads as line-empty-reads
-use Rattle.erasing.proofs.without.Reads as without-reads
-use Rattle.port.proofs.Port.with_output.Reads as with-output-reads
 
 line-empty-requires : tie.Need-line-empty-requires
 line-empty-requires c κs = search needs

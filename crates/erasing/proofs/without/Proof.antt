@@ -5,10 +5,6 @@ use Rattle.assembling.specs.Contract.{assembled}
 use borrow.Author.Needs.{needs}
 use Rattle.erasing.proofs.without.Statement.{statement}
 use Rattle.erasing.proofs.without.Tie as tie
-use Rattle.erasing.proofs.without.Reads as reads
-use Rattle.erasing.proofs.without.Lts as lts
-use Rattle.input.proofs.Input.cut.Reads as cut-reads
-use Rattle.assembling.proofs.assemble.Reads as assemble-reads
 
 cut-requires : tie.Need-cut-requires
 cut-requires c κs = search needs

@@ -2,8 +2,6 @@
 use borrow.Author.Tests.{eq-eqb, ne-eqb}
 use Rattle.expansion.proofs.carriage_return.Statement.{statement}
 use Rattle.expansion.proofs.carriage_return.Tie as tie
-use Rattle.expansion.proofs.carriage_return.Reads as reads
-use Rattle.expansion.proofs.carriage_return.Lts as lts
 
 returns : tie.Need-returns
 returns c = simp (c .if1 .taken)

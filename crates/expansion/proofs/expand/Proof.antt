@@ -5,10 +5,6 @@ use borrow.Author.Tests.{eq-eqb, ne-eqb}
 use borrow.Author.Needs.{needs}
 use Rattle.expansion.proofs.expand.Statement.{statement}
 use Rattle.expansion.proofs.expand.Tie as tie
-use Rattle.expansion.proofs.expand.Reads as reads
-use Rattle.expansion.proofs.expand.Lts as lts
-use Rattle.expansion.proofs.carriage_return.Reads as carriage-return-reads
-use Rattle.expansion.proofs.newline.Reads as newline-reads
 
 returns : tie.Need-returns
 unfolding expand

@@ -2,8 +2,6 @@
 use borrow.Author.Tests.{eq-eqb, ne-eqb}
 use Rattle.expansion.proofs.newline.Statement.{statement}
 use Rattle.expansion.proofs.newline.Tie as tie
-use Rattle.expansion.proofs.newline.Reads as reads
-use Rattle.expansion.proofs.newline.Lts as lts
 
 returns : tie.Need-returns
 returns c = simp (c .before .before .if1 .taken, c .before .if2 .taken, eq-eqb _ _ (c .if3 .taken))

@@ -6,8 +6,6 @@ use mathlib.Core.Path.{sym, ap, _∙_}
 use borrow.Author.Needs.{needs}
 use Rattle.expansion.proofs.width.Statement.{statement}
 use Rattle.expansion.proofs.width.Tie as tie
-use Rattle.expansion.proofs.width.Reads as reads
-use Rattle.expansion.proofs.width.Lts as lts
 
 enum-told : tie.Need-enum-told
 enum-told c = search needs

@@ -6,13 +6,6 @@ use native.Mathlib.Omega.{arith}
 use borrow.Author.Needs.{needs}
 use Rattle.feeding.proofs.advance.Statement.{statement}
 use Rattle.feeding.proofs.advance.Tie as tie
-use Rattle.feeding.proofs.advance.Reads as reads
-use Rattle.feeding.proofs.advance.Lts as lts
-use Rattle.lastlines.proofs.put_full.Reads as put-full-reads
-use Rattle.gathering.proofs.begun.Reads as begun-reads
-use Rattle.completing.proofs.complete.Reads as complete-reads
-use Rattle.gathering.proofs.gather.Reads as gather-reads
-use Rattle.gathering.proofs.is_open.Reads as is-open-reads
 
 returns : tie.Need-returns
 returns c = feeds-done (c .before .before .before .before .before .before .before .args .g) (c .before .before .before .before .before .before .before .args .bytes .now) (c .before .before .before .before .before .before .before .args .marks .now) (c .before .before .before .before .before .before .before .args .out .now) (c .before .before .before .before .before .before .before .args .kept .now) (c .before .before .before .before .before .before .before .args .piece .now) (c .before .before .before .before .before .before .before .args .line .now) (c .if1 .taken)

@@ -4,14 +4,6 @@ use Rattle.calling.proofs.Laws.{ranged-ranged}
 use borrow.Author.Needs.{needs}
 use Rattle.flushes.proofs.flush.Statement.{statement}
 use Rattle.flushes.proofs.flush.Tie as tie
-use Rattle.flushes.proofs.flush.Reads as reads
-use Rattle.flushes.proofs.flush.Lts as lts
-use Rattle.calling.proofs.in_range.Reads as in-range-reads
-use Rattle.port.proofs.says.Reads as says-reads
-use Rattle.port.proofs.Port.flush_output.Reads as flush-output-reads
-use Rattle.queue.proofs.least.Reads as least-reads
-use Rattle.signalling.proofs.flush_both.Reads as flush-both-reads
-use Rattle.flushing.proofs.flush_input.Reads as flush-input-reads
 
 least-requires : tie.Need-least-requires
 least-requires c κs = search needs

@@ -6,12 +6,6 @@ use mathlib.Core.Path.{ap, _∙_}
 use borrow.Author.Needs.{needs}
 use Rattle.flushing.proofs.flush_input.Statement.{statement}
 use Rattle.flushing.proofs.flush_input.Tie as tie
-use Rattle.flushing.proofs.flush_input.Reads as reads
-use Rattle.flushing.proofs.flush_input.Lts as lts
-use Rattle.input.proofs.Input.flush.Reads as flush-reads
-use Rattle.assembling.proofs.assemble.Reads as assemble-reads
-use Rattle.timing.proofs.between_bytes.Reads as between-bytes-reads
-use Rattle.timing.proofs.timer_flushed.Reads as timer-flushed-reads
 
 flush-requires : tie.Need-flush-requires
 flush-requires c κs = search needs

@@ -3,11 +3,6 @@ use Rattle.flushing.proofs.Laws.{bell-of, flushes-of}
 use borrow.Author.Needs.{needs}
 use Rattle.flushing.proofs.overflow.Statement.{statement}
 use Rattle.flushing.proofs.overflow.Tie as tie
-use Rattle.flushing.proofs.overflow.Reads as reads
-use Rattle.flushing.proofs.overflow.Lts as lts
-use Rattle.queuing.proofs.bell.Reads as bell-reads
-use Rattle.assembling.proofs.assemble.Reads as assemble-reads
-use Rattle.flushing.proofs.flush_input.Reads as flush-input-reads
 
 bell-requires : tie.Need-bell-requires
 bell-requires c κs = search needs

@@ -7,11 +7,6 @@ use mathlib.Core.Path.{ap, _∙_}
 use borrow.Author.Needs.{needs}
 use Rattle.flushing.proofs.stored.Statement.{statement}
 use Rattle.flushing.proofs.stored.Tie as tie
-use Rattle.flushing.proofs.stored.Reads as reads
-use Rattle.flushing.proofs.stored.Lts as lts
-use Rattle.assembling.proofs.assemble.Reads as assemble-reads
-use Rattle.timing.proofs.between_bytes.Reads as between-bytes-reads
-use Rattle.timing.proofs.timer_stored.Reads as timer-stored-reads
 
 between-bytes-requires : tie.Need-between-bytes-requires
 between-bytes-requires c κs = search needs

@@ -3,9 +3,6 @@ use Rattle.gathering.proofs.Laws.{begun-open, begun-none}
 use borrow.Author.Needs.{needs}
 use Rattle.gathering.proofs.begun.Statement.{statement}
 use Rattle.gathering.proofs.begun.Tie as tie
-use Rattle.gathering.proofs.begun.Reads as reads
-use Rattle.gathering.proofs.begun.Lts as lts
-use Rattle.gathering.proofs.is_open.Reads as is-open-reads
 
 is-open-requires : tie.Need-is-open-requires
 is-open-requires c κs = search needs

@@ -6,10 +6,6 @@ use Prim.Native.Nat.{_-_}
 use native.Mathlib.Omega.{arith}
 use Rattle.gathering.proofs.gather.Statement.{statement}
 use Rattle.gathering.proofs.gather.Tie as tie
-use Rattle.gathering.proofs.gather.Reads as reads
-use Rattle.gathering.proofs.gather.Lts as lts
-use Rattle.gathering.proofs.is_open.Reads as is-open-reads
-use Rattle.gathering.proofs.keep.Reads as keep-reads
 
 abbrev Inv-loop : tie.InvT-loop
 Inv-loop kept₀ have piece at₀ kept at = Gathering kept₀ have piece at kept

@@ -3,9 +3,6 @@ use Rattle.gathering.proofs.Laws.{open-as}
 use borrow.Author.Needs.{needs}
 use Rattle.gathering.proofs.is_open.Statement.{statement}
 use Rattle.gathering.proofs.is_open.Tie as tie
-use Rattle.gathering.proofs.is_open.Reads as reads
-use Rattle.gathering.proofs.is_open.Lts as lts
-use Rattle.bodies.proofs.two.Reads as two-reads
 
 shared-slice-read-two : tie.Need-shared-slice-read-two
 shared-slice-read-two c = search needs

@@ -4,8 +4,6 @@ use mathlib.Core.Path.{sym}
 use borrow.Author.Needs.{needs}
 use Rattle.gathering.proofs.keep.Statement.{statement}
 use Rattle.gathering.proofs.keep.Tie as tie
-use Rattle.gathering.proofs.keep.Reads as reads
-use Rattle.gathering.proofs.keep.Lts as lts
 
 slice-write-kept : tie.Need-slice-write-kept
 slice-write-kept c = search needs

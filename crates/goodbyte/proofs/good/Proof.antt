@@ -6,13 +6,6 @@ use Rattle.goodbyte.proofs.Laws.{good-of, begun-ready}
 use borrow.Author.Needs.{needs}
 use Rattle.goodbyte.proofs.good.Statement.{statement}
 use Rattle.goodbyte.proofs.good.Tie as tie
-use Rattle.goodbyte.proofs.good.Reads as reads
-use Rattle.goodbyte.proofs.good.Lts as lts
-use Rattle.meaning.proofs.means.Reads as means-reads
-use Rattle.mapping.proofs.stripped.Reads as stripped-reads
-use Rattle.beginning.proofs.begins.Reads as begins-reads
-use Rattle.carrying.proofs.carries.Reads as carries-reads
-use Rattle.goodbyte.proofs.tells.Reads as tells-reads
 
 stripped-requires : tie.Need-stripped-requires
 stripped-requires c κs = search needs

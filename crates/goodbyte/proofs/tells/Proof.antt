@@ -5,9 +5,6 @@ use Rattle.goodbyte.proofs.Laws.{told}
 use borrow.Author.Needs.{needs}
 use Rattle.goodbyte.proofs.tells.Statement.{statement}
 use Rattle.goodbyte.proofs.tells.Tie as tie
-use Rattle.goodbyte.proofs.tells.Reads as reads
-use Rattle.goodbyte.proofs.tells.Lts as lts
-use Rattle.groups.proofs.reported.Reads as reported-reads
 
 enum-told : tie.Need-enum-told
 enum-told c = search needs

@@ -3,10 +3,6 @@ use Rattle.judging.proofs.Laws.{judged-large, judged-none, judged-given
 use borrow.Author.Needs.{needs}
 use Rattle.judging.proofs.judged.Statement.{statement}
 use Rattle.judging.proofs.judged.Tie as tie
-use Rattle.judging.proofs.judged.Reads as reads
-use Rattle.judging.proofs.judged.Lts as lts
-use Rattle.port.proofs.says.Reads as says-reads
-use Rattle.groups.proofs.too_large.Reads as too-large-reads
 
 too-large-requires : tie.Need-too-large-requires
 too-large-requires c κs = search needs

@@ -4,10 +4,6 @@ use Rattle.port.specs.State.{get}
 use borrow.Author.Needs.{needs}
 use Rattle.judging.proofs.read_verdict.Statement.{statement}
 use Rattle.judging.proofs.read_verdict.Tie as tie
-use Rattle.judging.proofs.read_verdict.Reads as reads
-use Rattle.judging.proofs.read_verdict.Lts as lts
-use Rattle.judging.proofs.judged.Reads as judged-reads
-use Rattle.verdicts.proofs.read_verdict.Reads as read-verdict-reads
 
 read-verdict-requires : tie.Need-read-verdict-requires
 read-verdict-requires c κs = search needs

@@ -4,10 +4,6 @@ use Rattle.port.specs.State.{get}
 use borrow.Author.Needs.{needs}
 use Rattle.judging.proofs.settings_verdict.Statement.{statement}
 use Rattle.judging.proofs.settings_verdict.Tie as tie
-use Rattle.judging.proofs.settings_verdict.Reads as reads
-use Rattle.judging.proofs.settings_verdict.Lts as lts
-use Rattle.judging.proofs.judged.Reads as judged-reads
-use Rattle.verdicts.proofs.settings_verdict.Reads as settings-verdict-reads
 
 settings-verdict-requires : tie.Need-settings-verdict-requires
 settings-verdict-requires c κs = search needs

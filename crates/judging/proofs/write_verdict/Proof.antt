@@ -4,10 +4,6 @@ use Rattle.port.specs.State.{get}
 use borrow.Author.Needs.{needs}
 use Rattle.judging.proofs.write_verdict.Statement.{statement}
 use Rattle.judging.proofs.write_verdict.Tie as tie
-use Rattle.judging.proofs.write_verdict.Reads as reads
-use Rattle.judging.proofs.write_verdict.Lts as lts
-use Rattle.judging.proofs.judged.Reads as judged-reads
-use Rattle.verdicts.proofs.write_verdict.Reads as write-verdict-reads
 
 write-verdict-requires : tie.Need-write-verdict-requires
 write-verdict-requires c κs = search needs

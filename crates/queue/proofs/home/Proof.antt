@@ -5,8 +5,6 @@ use native.Mathlib.Nat.{mod-eq-of-lt, mod-zero}
 use borrow.Author.Needs.{needs}
 use Rattle.queue.proofs.home.Statement.{statement}
 use Rattle.queue.proofs.home.Tie as tie
-use Rattle.queue.proofs.home.Reads as reads
-use Rattle.queue.proofs.home.Lts as lts
 
 returns : tie.Need-returns
 returns c = sym (mod-eq-of-lt (c .if1 .taken))

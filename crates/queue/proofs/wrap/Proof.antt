@@ -5,8 +5,6 @@ use native.Mathlib.Nat.{mod-eq-of-lt, mod-eq-sub-mod}
 use native.Mathlib.Omega.{arith}
 use Rattle.queue.proofs.wrap.Statement.{statement}
 use Rattle.queue.proofs.wrap.Tie as tie
-use Rattle.queue.proofs.wrap.Reads as reads
-use Rattle.queue.proofs.wrap.Lts as lts
 
 returns : tie.Need-returns
 returns c = sym (mod-eq-of-lt (c .if1 .taken))

@@ -6,10 +6,6 @@ use Prim.Native.Nat.{_-_}
 use borrow.Author.Needs.{needs}
 use Rattle.queuing.proofs.bell.Statement.{statement}
 use Rattle.queuing.proofs.bell.Tie as tie
-use Rattle.queuing.proofs.bell.Reads as reads
-use Rattle.queuing.proofs.bell.Lts as lts
-use Rattle.output.proofs.Output.fit.Reads as fit-reads
-use Rattle.queuing.proofs.put_byte.Reads as put-byte-reads
 
 fit-requires : tie.Need-fit-requires
 fit-requires c κs = search needs

@@ -13,11 +13,6 @@ use mathlib.Core.Path.{_≡_, ap, _∙_}
 use borrow.Author.Needs.{needs}
 use Rattle.queuing.proofs.put.Statement.{statement}
 use Rattle.queuing.proofs.put.Tie as tie
-use Rattle.queuing.proofs.put.Reads as reads
-use Rattle.queuing.proofs.put.Lts as lts
-use Rattle.output.proofs.Output.fit.Reads as fit-reads
-use Rattle.queuing.proofs.put_byte.Reads as put-byte-reads
-use Rattle.queuing.proofs.put_spaces.Reads as put-spaces-reads
 
 enum-told : tie.Need-enum-told
 enum-told c = search needs

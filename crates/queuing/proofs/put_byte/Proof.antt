@@ -3,10 +3,6 @@ use Rattle.output.proofs.Laws.{pushed}
 use borrow.Author.Needs.{needs}
 use Rattle.queuing.proofs.put_byte.Statement.{statement}
 use Rattle.queuing.proofs.put_byte.Tie as tie
-use Rattle.queuing.proofs.put_byte.Reads as reads
-use Rattle.queuing.proofs.put_byte.Lts as lts
-use Rattle.columns.proofs.next_column.Reads as next-column-reads
-use Rattle.queue.proofs.Queue.push.Reads as push-reads
 
 push-requires : tie.Need-push-requires
 push-requires c κs = search needs

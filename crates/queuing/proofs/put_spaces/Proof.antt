@@ -14,10 +14,6 @@ use Prim.Native.Nat.{ℕ, _+_, _-_, _≤_, min}
 use mathlib.Core.Path.{_≡_}
 use Rattle.queuing.proofs.put_spaces.Statement.{statement}
 use Rattle.queuing.proofs.put_spaces.Tie as tie
-use Rattle.queuing.proofs.put_spaces.Reads as reads
-use Rattle.queuing.proofs.put_spaces.Lts as lts
-use Rattle.output.proofs.Output.fit.Reads as fit-reads
-use Rattle.queuing.proofs.put_byte.Reads as put-byte-reads
 
 abbrev Inv-loop : tie.InvT-loop
 Inv-loop x out₀ n o₀ i₀ out o i = (i ≤ n) × Becomes o₀ out₀ (queued x (get o₀ out₀) (replicate i 32)) o out

@@ -10,9 +10,6 @@ use mathlib.Core.Path.{_≡_}
 use borrow.Author.Needs.{needs}
 use Rattle.queuing.proofs.rub_one.Statement.{statement}
 use Rattle.queuing.proofs.rub_one.Tie as tie
-use Rattle.queuing.proofs.rub_one.Reads as reads
-use Rattle.queuing.proofs.rub_one.Lts as lts
-use Rattle.queuing.proofs.put_byte.Reads as put-byte-reads
 
 put-byte-requires : tie.Need-put-byte-requires
 put-byte-requires c κs = search needs

@@ -13,10 +13,6 @@ use Prim.Native.Nat.{_+_, _-_, _*_, _≤_, min}
 use mathlib.Core.Path.{_≡_}
 use Rattle.queuing.proofs.rub_out.Statement.{statement}
 use Rattle.queuing.proofs.rub_out.Tie as tie
-use Rattle.queuing.proofs.rub_out.Reads as reads
-use Rattle.queuing.proofs.rub_out.Lts as lts
-use Rattle.output.proofs.Output.fit.Reads as fit-reads
-use Rattle.queuing.proofs.rub_one.Reads as rub-one-reads
 
 abbrev Inv-loop : tie.InvT-loop
 Inv-loop x out₀ n size o₀ i₀ out o i = (i ≤ n) × (o₀ .queue .len + 3 * n ≤ length out₀) × Becomes o₀ out₀ (queued x (get o₀ out₀) (rubout i)) o out

@@ -11,12 +11,6 @@ use native.Mathlib.Omega.{arith}
 use Prim.Native.Nat.{_-_}
 use Rattle.queuing.proofs.show.Statement.{statement}
 use Rattle.queuing.proofs.show.Tie as tie
-use Rattle.queuing.proofs.show.Reads as reads
-use Rattle.queuing.proofs.show.Lts as lts
-use Rattle.columns.proofs.Measure.and.Reads as and-reads
-use Rattle.output.proofs.Output.fit.Reads as fit-reads
-use Rattle.output.proofs.Output.measure.Reads as measure-reads
-use Rattle.queuing.proofs.write.Reads as write-reads
 
 abbrev Inv-loop : tie.InvT-loop
 Inv-loop self x out bytes n m₀ i₀ m i = Measuring x self n bytes i m

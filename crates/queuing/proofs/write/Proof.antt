@@ -11,12 +11,6 @@ use Prim.Native.Nat.{_-_}
 use mathlib.Core.Path.{_≡_}
 use Rattle.queuing.proofs.write.Statement.{statement}
 use Rattle.queuing.proofs.write.Tie as tie
-use Rattle.queuing.proofs.write.Reads as reads
-use Rattle.queuing.proofs.write.Lts as lts
-use Rattle.output.proofs.Output.fit.Reads as fit-reads
-use Rattle.queuing.proofs.put.Reads as put-reads
-use Rattle.expansion.proofs.expand.Reads as expand-reads
-use Rattle.expansion.proofs.width.Reads as width-reads
 
 abbrev Inv-loop : tie.InvT-loop
 Inv-loop x out₀ src n o₀ i₀ out o i = SoFar x o₀ out₀ src i o out

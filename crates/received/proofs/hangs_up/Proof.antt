@@ -7,11 +7,6 @@ use Rattle.received.proofs.Laws.{reports-of, hung-up}
 use borrow.Author.Needs.{needs}
 use Rattle.received.proofs.hangs_up.Statement.{statement}
 use Rattle.received.proofs.hangs_up.Tie as tie
-use Rattle.received.proofs.hangs_up.Reads as reads
-use Rattle.received.proofs.hangs_up.Lts as lts
-use Rattle.received.proofs.hung_up.Reads as hung-up-reads
-use Rattle.received.proofs.reports.Reads as reports-reads
-use Rattle.signalling.proofs.flush_both.Reads as flush-both-reads
 
 flush-both-requires : tie.Need-flush-both-requires
 flush-both-requires c κs = search needs

@@ -7,10 +7,6 @@ use Rattle.received.proofs.Laws.{reports-of}
 use borrow.Author.Needs.{needs}
 use Rattle.received.proofs.interrupts.Statement.{statement}
 use Rattle.received.proofs.interrupts.Tie as tie
-use Rattle.received.proofs.interrupts.Reads as reads
-use Rattle.received.proofs.interrupts.Lts as lts
-use Rattle.received.proofs.reports.Reads as reports-reads
-use Rattle.signalling.proofs.flush_both.Reads as flush-both-reads
 
 flush-both-requires : tie.Need-flush-both-requires
 flush-both-requires c κs = search needs

@@ -9,15 +9,6 @@ use Rattle.received.proofs.Laws.{quiet-of, happens, ticked}
 use borrow.Author.Needs.{needs}
 use Rattle.received.proofs.received.Statement.{statement}
 use Rattle.received.proofs.received.Tie as tie
-use Rattle.received.proofs.received.Reads as reads
-use Rattle.received.proofs.received.Lts as lts
-use Rattle.arrival.proofs.arrives.Reads as arrives-reads
-use Rattle.goodbyte.proofs.good.Reads as good-reads
-use Rattle.received.proofs.hangs_up.Reads as hangs-up-reads
-use Rattle.received.proofs.interrupts.Reads as interrupts-reads
-use Rattle.received.proofs.quiet.Reads as quiet-reads
-use Rattle.received.proofs.ticks.Reads as ticks-reads
-use Rattle.storing.proofs.silently.Reads as silently-reads
 
 arrives-requires : tie.Need-arrives-requires
 arrives-requires c κs = search needs

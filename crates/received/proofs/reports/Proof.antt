@@ -4,9 +4,6 @@ use Rattle.rules.specs.declared.Outcome.{Outcome}
 use borrow.Author.Needs.{needs}
 use Rattle.received.proofs.reports.Statement.{statement}
 use Rattle.received.proofs.reports.Tie as tie
-use Rattle.received.proofs.reports.Reads as reads
-use Rattle.received.proofs.reports.Lts as lts
-use Rattle.groups.proofs.reported.Reads as reported-reads
 
 reported-requires : tie.Need-reported-requires
 reported-requires c κs = search needs

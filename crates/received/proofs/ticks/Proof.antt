@@ -5,10 +5,6 @@ use Rattle.assembling.specs.Contract.{assembled}
 use borrow.Author.Needs.{needs}
 use Rattle.received.proofs.ticks.Statement.{statement}
 use Rattle.received.proofs.ticks.Tie as tie
-use Rattle.received.proofs.ticks.Reads as reads
-use Rattle.received.proofs.ticks.Lts as lts
-use Rattle.assembling.proofs.assemble.Reads as assemble-reads
-use Rattle.timer.proofs.lowered.Reads as lowered-reads
 
 lowered-requires : tie.Need-lowered-requires
 lowered-requires c κs = search needs

@@ -7,13 +7,6 @@ use Rattle.receiving.proofs.Laws.{received-of}
 use borrow.Author.Needs.{needs}
 use Rattle.receiving.proofs.receive.Statement.{statement}
 use Rattle.receiving.proofs.receive.Tie as tie
-use Rattle.receiving.proofs.receive.Reads as reads
-use Rattle.receiving.proofs.receive.Lts as lts
-use Rattle.receiving.proofs.bytes_in.Reads as bytes-in-reads
-use Rattle.calling.proofs.in_range.Reads as in-range-reads
-use Rattle.port.proofs.says.Reads as says-reads
-use Rattle.queue.proofs.least.Reads as least-reads
-use Rattle.received.proofs.received.Reads as received-reads
 
 least-requires : tie.Need-least-requires
 least-requires c κs = search needs

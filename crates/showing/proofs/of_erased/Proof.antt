@@ -7,11 +7,6 @@ use mathlib.Core.List.{[]}
 use borrow.Author.Needs.{needs}
 use Rattle.showing.proofs.of_erased.Statement.{statement}
 use Rattle.showing.proofs.of_erased.Tie as tie
-use Rattle.showing.proofs.of_erased.Reads as reads
-use Rattle.showing.proofs.of_erased.Lts as lts
-use Rattle.echo.proofs.show.Reads as show-reads
-use Rattle.output.proofs.Output.fit.Reads as fit-reads
-use Rattle.queuing.proofs.rub_out.Reads as rub-out-reads
 
 rub-out-requires : tie.Need-rub-out-requires
 rub-out-requires c κs = search needs

@@ -7,12 +7,6 @@ use mathlib.Core.List.{[], _∷_, _++_}
 use borrow.Author.Needs.{needs}
 use Rattle.showing.proofs.of_killed.Statement.{statement}
 use Rattle.showing.proofs.of_killed.Tie as tie
-use Rattle.showing.proofs.of_killed.Reads as reads
-use Rattle.showing.proofs.of_killed.Lts as lts
-use Rattle.echo.proofs.show.Reads as show-reads
-use Rattle.echo.proofs.show_line.Reads as show-line-reads
-use Rattle.output.proofs.Output.fit.Reads as fit-reads
-use Rattle.queuing.proofs.rub_out.Reads as rub-out-reads
 
 rub-out-requires : tie.Need-rub-out-requires
 rub-out-requires c κs = search needs

@@ -6,12 +6,6 @@ use mathlib.Core.List.{[], _∷_}
 use borrow.Author.Needs.{needs}
 use Rattle.showing.proofs.of_stored.Statement.{statement}
 use Rattle.showing.proofs.of_stored.Tie as tie
-use Rattle.showing.proofs.of_stored.Reads as reads
-use Rattle.showing.proofs.of_stored.Lts as lts
-use Rattle.echo.proofs.show.Reads as show-reads
-use Rattle.showing.proofs.shows_newline.Reads as shows-newline-reads
-use Rattle.output.proofs.Output.fit.Reads as fit-reads
-use Rattle.queuing.proofs.show.Reads as Output-show-reads
 
 show-requires : tie.Need-show-requires
 show-requires c κs = search needs

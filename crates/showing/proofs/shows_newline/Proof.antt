@@ -2,8 +2,6 @@
 use Rattle.showing.proofs.Laws.{all-three, not-second, not-first}
 use Rattle.showing.proofs.shows_newline.Statement.{statement}
 use Rattle.showing.proofs.shows_newline.Tie as tie
-use Rattle.showing.proofs.shows_newline.Reads as reads
-use Rattle.showing.proofs.shows_newline.Lts as lts
 
 returns : tie.Need-returns
 returns c = all-three (c .before .before .args .x) (c .before .before .args .b) (c .before .if1 .taken) (c .if2 .taken)

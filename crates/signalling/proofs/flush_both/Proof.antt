@@ -3,10 +3,6 @@ use Rattle.signalling.proofs.Laws.{flushed-both}
 use borrow.Author.Needs.{needs}
 use Rattle.signalling.proofs.flush_both.Statement.{statement}
 use Rattle.signalling.proofs.flush_both.Tie as tie
-use Rattle.signalling.proofs.flush_both.Reads as reads
-use Rattle.signalling.proofs.flush_both.Lts as lts
-use Rattle.port.proofs.Port.flush_output.Reads as flush-output-reads
-use Rattle.flushing.proofs.flush_input.Reads as flush-input-reads
 
 flush-input-requires : tie.Need-flush-input-requires
 flush-input-requires c κs = search needs

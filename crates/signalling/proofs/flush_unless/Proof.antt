@@ -3,9 +3,6 @@ use Rattle.signalling.proofs.Laws.{unless-kept, unless-flushed}
 use borrow.Author.Needs.{needs}
 use Rattle.signalling.proofs.flush_unless.Statement.{statement}
 use Rattle.signalling.proofs.flush_unless.Tie as tie
-use Rattle.signalling.proofs.flush_unless.Reads as reads
-use Rattle.signalling.proofs.flush_unless.Lts as lts
-use Rattle.signalling.proofs.flush_both.Reads as flush-both-reads
 
 returns : tie.Need-returns
 returns c = unless-kept ((c .before .before .args .p)) ((c .before .before .args .n)) ((c .before .before .args .out .now)) ((c .before .before .args .kept)) (c .before .before .pre) (c .if1 .taken)

@@ -3,11 +3,6 @@ use Rattle.signalling.proofs.Laws.{signals-of}
 use borrow.Author.Needs.{needs}
 use Rattle.signalling.proofs.signals.Statement.{statement}
 use Rattle.signalling.proofs.signals.Tie as tie
-use Rattle.signalling.proofs.signals.Reads as reads
-use Rattle.signalling.proofs.signals.Lts as lts
-use Rattle.echo.proofs.of_byte.Reads as of-byte-reads
-use Rattle.port.proofs.Port.with_output.Reads as with-output-reads
-use Rattle.signalling.proofs.flush_unless.Reads as flush-unless-reads
 
 flush-unless-requires : tie.Need-flush-unless-requires
 flush-unless-requires c κs = search needs

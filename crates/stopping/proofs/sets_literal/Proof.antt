@@ -5,10 +5,6 @@ use Rattle.assembling.specs.Contract.{assembled}
 use borrow.Author.Needs.{needs}
 use Rattle.stopping.proofs.sets_literal.Statement.{statement}
 use Rattle.stopping.proofs.sets_literal.Tie as tie
-use Rattle.stopping.proofs.sets_literal.Reads as reads
-use Rattle.stopping.proofs.sets_literal.Lts as lts
-use Rattle.input.proofs.Input.with_literal.Reads as with-literal-reads
-use Rattle.assembling.proofs.assemble.Reads as assemble-reads
 
 with-literal-requires : tie.Need-with-literal-requires
 with-literal-requires c κs = search needs

@@ -5,10 +5,6 @@ use Rattle.port.specs.State.{withOutput}
 use borrow.Author.Needs.{needs}
 use Rattle.stopping.proofs.stopped_to.Statement.{statement}
 use Rattle.stopping.proofs.stopped_to.Tie as tie
-use Rattle.stopping.proofs.stopped_to.Reads as reads
-use Rattle.stopping.proofs.stopped_to.Lts as lts
-use Rattle.output.proofs.Output.stop.Reads as stop-reads
-use Rattle.port.proofs.Port.with_output.Reads as with-output-reads
 
 stop-requires : tie.Need-stop-requires
 stop-requires c κs = search needs

@@ -12,15 +12,6 @@ use mathlib.Core.Path.{_≡_, ap, _∙_}
 use borrow.Author.Needs.{needs}
 use Rattle.storing.proofs.stores.Statement.{statement}
 use Rattle.storing.proofs.stores.Tie as tie
-use Rattle.storing.proofs.stores.Reads as reads
-use Rattle.storing.proofs.stores.Lts as lts
-use Rattle.showing.proofs.of_stored.Reads as of-stored-reads
-use Rattle.units.proofs.store.Reads as store-reads
-use Rattle.fitting.proofs.unit_fits.Reads as unit-fits-reads
-use Rattle.fitting.proofs.size.Reads as size-reads
-use Rattle.flushing.proofs.overflow.Reads as overflow-reads
-use Rattle.flushing.proofs.stored.Reads as stored-reads
-use Rattle.fitting.proofs.unit_of.Reads as unit-of-reads
 
 unit-of-requires : tie.Need-unit-of-requires
 unit-of-requires c κs = search needs

@@ -3,11 +3,6 @@ use Rattle.stream.proofs.Laws.{last-done, last-none, last-full, last-cu
 use borrow.Author.Needs.{needs}
 use Rattle.stream.proofs.last.Statement.{statement}
 use Rattle.stream.proofs.last.Tie as tie
-use Rattle.stream.proofs.last.Reads as reads
-use Rattle.stream.proofs.last.Lts as lts
-use Rattle.lastlines.proofs.put_cut.Reads as put-cut-reads
-use Rattle.lastlines.proofs.put_full.Reads as put-full-reads
-use Rattle.gathering.proofs.begun.Reads as begun-reads
 
 returns : tie.Need-returns
 returns c = last-done (c .before .before .before .args .g) (c .before .before .before .args .kept .now) (c .before .before .before .args .line .now) (c .if1 .taken)

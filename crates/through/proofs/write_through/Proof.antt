@@ -12,11 +12,6 @@ use mathlib.Core.Path.{_≡_, ap, ap₂, _∙_}
 use borrow.Author.Needs.{needs}
 use Rattle.through.proofs.write_through.Statement.{statement}
 use Rattle.through.proofs.write_through.Tie as tie
-use Rattle.through.proofs.write_through.Reads as reads
-use Rattle.through.proofs.write_through.Lts as lts
-use Rattle.writing.proofs.transmit.Reads as transmit-reads
-use Rattle.writing.proofs.write.Reads as write-reads
-use Rattle.through.proofs.taken.Reads as taken-reads
 
 write-requires : tie.Need-write-requires
 write-requires c κs = search needs

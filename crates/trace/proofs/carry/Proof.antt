@@ -6,12 +6,6 @@ use Rattle.trace.proofs.Laws.{malformed-carried, at-most, carried}
 use borrow.Author.Needs.{needs}
 use Rattle.trace.proofs.carry.Statement.{statement}
 use Rattle.trace.proofs.carry.Tie as tie
-use Rattle.trace.proofs.carry.Reads as reads
-use Rattle.trace.proofs.carry.Lts as lts
-use Rattle.discipline.proofs.step.Reads as step-reads
-use Rattle.records.proofs.decode.Reads as decode-reads
-use Rattle.trace.proofs.given_of.Reads as given-of-reads
-use Rattle.trace.proofs.load.Reads as load-reads
 
 decode-requires : tie.Need-decode-requires
 decode-requires c κs = search needs

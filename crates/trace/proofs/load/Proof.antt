@@ -5,9 +5,6 @@ use native.Mathlib.Omega.{arith}
 use Rattle.trace.proofs.Laws.{Loading, loading-begins, loading-next, loaded, loading-size}
 use Rattle.trace.proofs.load.Statement.{statement}
 use Rattle.trace.proofs.load.Tie as tie
-use Rattle.trace.proofs.load.Reads as reads
-use Rattle.trace.proofs.load.Lts as lts
-use Rattle.queue.proofs.least.Reads as least-reads
 
 abbrev Inv-loop : tie.InvT-loop
 Inv-loop lent₀ body n most k i₀ lent i = Loading lent₀ body k i lent

@@ -5,10 +5,6 @@ use Rattle.trace.proofs.Laws.{recorded}
 use borrow.Author.Needs.{needs}
 use Rattle.trace.proofs.record.Statement.{statement}
 use Rattle.trace.proofs.record.Tie as tie
-use Rattle.trace.proofs.record.Reads as reads
-use Rattle.trace.proofs.record.Lts as lts
-use Rattle.lines.proofs.put_line.Reads as put-line-reads
-use Rattle.trace.proofs.carry.Reads as carry-reads
 
 slice-aggregate-carry : tie.Need-slice-aggregate-carry
 slice-aggregate-carry c = search needs

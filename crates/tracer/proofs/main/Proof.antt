@@ -5,15 +5,6 @@ use mathlib.Core.Path.{_≡_, refl, sym, _∙_}
 use native.Mathlib.Omega.{arith}
 use Rattle.tracer.proofs.main.Statement.{statement}
 use Rattle.tracer.proofs.main.Tie as tie
-use Rattle.tracer.proofs.main.Reads as reads
-use Rattle.tracer.proofs.main.Lts as lts
-use Rattle.io.proofs.count.Reads as count-reads
-use Rattle.io.proofs.write_all.Reads as write-all-reads
-use Rattle.libc.proofs.read.Reads as read-reads
-use Rattle.os.proofs.fail.Reads as fail-reads
-use Rattle.stream.proofs.Stream.start.Reads as start-reads
-use Rattle.stream.proofs.finish.Reads as finish-reads
-use Rattle.tracer.proofs.pass.Reads as pass-reads
 
 abbrev Inv-loop : tie.InvT-loop
 Inv-loop bytes₀ marks₀ out₀ kept₀ buf₀ s₀ turns₀ t13 t14 t15 bytes marks out kept buf s turns = (length bytes ≡ 1024) × (length marks ≡ 1024) × (length out ≡ 2048) × (length buf ≡ 65536)

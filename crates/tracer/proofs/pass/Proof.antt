@@ -9,10 +9,6 @@ use Prim.Native.Nat.{_-_}
 use native.Mathlib.Omega.{arith}
 use Rattle.tracer.proofs.pass.Statement.{statement}
 use Rattle.tracer.proofs.pass.Tie as tie
-use Rattle.tracer.proofs.pass.Reads as reads
-use Rattle.tracer.proofs.pass.Lts as lts
-use Rattle.io.proofs.write_all.Reads as write-all-reads
-use Rattle.feeding.proofs.feed.Reads as feed-reads
 
 abbrev Inv-loop : tie.InvT-loop
 Inv-loop bytes₀ marks₀ out₀ kept₀ piece line₀ s₀ at₀ bytes marks out kept line s at = Passing s₀ bytes₀ marks₀ out₀ kept₀ piece at s bytes marks out kept × (length line ≡ 4123) × (length bytes ≡ length bytes₀) × (length marks ≡ length marks₀) × (length out ≡ length out₀)

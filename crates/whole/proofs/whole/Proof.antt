@@ -7,11 +7,6 @@ use Prim.Native.Nat.{_-_}
 use native.Mathlib.Omega.{arith}
 use Rattle.whole.proofs.whole.Statement.{statement}
 use Rattle.whole.proofs.whole.Tie as tie
-use Rattle.whole.proofs.whole.Reads as reads
-use Rattle.whole.proofs.whole.Lts as lts
-use Rattle.stream.proofs.Stream.start.Reads as start-reads
-use Rattle.feeding.proofs.feed.Reads as feed-reads
-use Rattle.stream.proofs.finish.Reads as finish-reads
 
 abbrev Inv-loop : tie.InvT-loop
 Inv-loop input dst₀ bytes₀ marks₀ out₀ kept₀ s₀ at₀ written₀ dst bytes marks out kept s at written =

@@ -2,8 +2,6 @@
 use Rattle.writing.proofs.Laws.{some-bytes, no-bytes}
 use Rattle.writing.proofs.nothing_taken.Statement.{statement}
 use Rattle.writing.proofs.nothing_taken.Tie as tie
-use Rattle.writing.proofs.nothing_taken.Reads as reads
-use Rattle.writing.proofs.nothing_taken.Lts as lts
 
 returns : tie.Need-returns
 returns c = some-bytes (c .before .args .len) (c .before .args .count) (c .if1 .taken)

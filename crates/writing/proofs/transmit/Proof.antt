@@ -3,11 +3,6 @@ use Rattle.writing.proofs.Laws.{sent-of}
 use borrow.Author.Needs.{needs}
 use Rattle.writing.proofs.transmit.Statement.{statement}
 use Rattle.writing.proofs.transmit.Tie as tie
-use Rattle.writing.proofs.transmit.Reads as reads
-use Rattle.writing.proofs.transmit.Lts as lts
-use Rattle.output.proofs.Output.transmit.Reads as transmit-reads
-use Rattle.port.proofs.Port.with_output.Reads as with-output-reads
-use Rattle.port.proofs.says.Reads as says-reads
 
 transmit-requires : tie.Need-transmit-requires
 transmit-requires c κs = search needs

@@ -5,12 +5,6 @@ use Rattle.writing.proofs.Laws.{hung-of, none-of, some-of, counted-none
 use borrow.Author.Needs.{needs}
 use Rattle.writing.proofs.write.Statement.{statement}
 use Rattle.writing.proofs.write.Tie as tie
-use Rattle.writing.proofs.write.Reads as reads
-use Rattle.writing.proofs.write.Lts as lts
-use Rattle.queuing.proofs.write.Reads as write-reads
-use Rattle.port.proofs.Port.with_output.Reads as with-output-reads
-use Rattle.writing.proofs.nothing_taken.Reads as nothing-taken-reads
-use Rattle.port.proofs.says.Reads as says-reads
 
 says-requires : tie.Need-says-requires
 says-requires c κs = search needs

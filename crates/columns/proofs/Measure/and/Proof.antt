@@ -4,11 +4,6 @@ use Rattle.expansion.specs.Contract.{bytesOf}
 use borrow.Author.Needs.{needs}
 use Rattle.columns.proofs.Measure.and.Statement.{statement}
 use Rattle.columns.proofs.Measure.and.Tie as tie
-use Rattle.columns.proofs.Measure.and.Reads as reads
-use Rattle.columns.proofs.Measure.and.Lts as lts
-use Rattle.columns.proofs.column_after.Reads as column-after-reads
-use Rattle.expansion.proofs.expand.Reads as expand-reads
-use Rattle.expansion.proofs.width.Reads as width-reads
 
 expand-requires : tie.Need-expand-requires
 expand-requires c κs = search needs

@@ -4,9 +4,6 @@ use mathlib.Core.Path.{ap}
 use borrow.Author.Needs.{needs}
 use Rattle.output.proofs.Output.fit.Statement.{statement}
 use Rattle.output.proofs.Output.fit.Tie as tie
-use Rattle.output.proofs.Output.fit.Reads as reads
-use Rattle.output.proofs.Output.fit.Lts as lts
-use Rattle.queue.proofs.Queue.fit.Reads as fit-reads
 
 fit-requires : tie.Need-fit-requires
 fit-requires c κs = search needs

@@ -4,9 +4,6 @@ use mathlib.Core.Path.{ap}
 use borrow.Author.Needs.{needs}
 use Rattle.output.proofs.Output.flush.Statement.{statement}
 use Rattle.output.proofs.Output.flush.Tie as tie
-use Rattle.output.proofs.Output.flush.Reads as reads
-use Rattle.output.proofs.Output.flush.Lts as lts
-use Rattle.queue.proofs.Queue.drop_all.Reads as drop-all-reads
 
 drop-all-requires : tie.Need-drop-all-requires
 drop-all-requires c κs = search needs

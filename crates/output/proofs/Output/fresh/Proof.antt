@@ -5,9 +5,6 @@ use mathlib.Core.Path.{ap}
 use borrow.Author.Needs.{needs}
 use Rattle.output.proofs.Output.fresh.Statement.{statement}
 use Rattle.output.proofs.Output.fresh.Tie as tie
-use Rattle.output.proofs.Output.fresh.Reads as reads
-use Rattle.output.proofs.Output.fresh.Lts as lts
-use Rattle.queue.proofs.Queue.empty.Reads as empty-reads
 
 empty-requires : tie.Need-empty-requires
 empty-requires c κs = search needs

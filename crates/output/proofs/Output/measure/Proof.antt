@@ -7,9 +7,6 @@ use mathlib.Core.Path.{ap}
 use borrow.Author.Needs.{needs}
 use Rattle.output.proofs.Output.measure.Statement.{statement}
 use Rattle.output.proofs.Output.measure.Tie as tie
-use Rattle.output.proofs.Output.measure.Reads as reads
-use Rattle.output.proofs.Output.measure.Lts as lts
-use Rattle.queue.proofs.Queue.fit.Reads as fit-reads
 
 fit-requires : tie.Need-fit-requires
 fit-requires c κs = search needs

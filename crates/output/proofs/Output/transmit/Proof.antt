@@ -3,10 +3,6 @@ use Rattle.output.proofs.Sending.{sent-stopped, sent-some}
 use borrow.Author.Needs.{needs}
 use Rattle.output.proofs.Output.transmit.Statement.{statement}
 use Rattle.output.proofs.Output.transmit.Tie as tie
-use Rattle.output.proofs.Output.transmit.Reads as reads
-use Rattle.output.proofs.Output.transmit.Lts as lts
-use Rattle.output.proofs.Output.fit.Reads as fit-reads
-use Rattle.runs.proofs.take.Reads as take-reads
 
 fit-requires : tie.Need-fit-requires
 fit-requires c κs = search needs

@@ -4,10 +4,6 @@ use mathlib.Core.Path.{ap, _∙_}
 use borrow.Author.Needs.{needs}
 use Rattle.port.proofs.Port.flush_output.Statement.{statement}
 use Rattle.port.proofs.Port.flush_output.Tie as tie
-use Rattle.port.proofs.Port.flush_output.Reads as reads
-use Rattle.port.proofs.Port.flush_output.Lts as lts
-use Rattle.output.proofs.Output.flush.Reads as flush-reads
-use Rattle.port.proofs.Port.with_output.Reads as with-output-reads
 
 flush-requires : tie.Need-flush-requires
 flush-requires c κs = search needs

@@ -8,10 +8,6 @@ use native.Mathlib.Omega.{arith}
 use borrow.Author.Needs.{needs}
 use Rattle.queue.proofs.Queue.change.Statement.{statement}
 use Rattle.queue.proofs.Queue.change.Tie as tie
-use Rattle.queue.proofs.Queue.change.Reads as reads
-use Rattle.queue.proofs.Queue.change.Lts as lts
-use Rattle.queue.proofs.Queue.fit.Reads as fit-reads
-use Rattle.queue.proofs.wrap.Reads as wrap-reads
 
 fit-requires : tie.Need-fit-requires
 fit-requires c κs = search needs

@@ -5,9 +5,6 @@ use Prim.Native.Nat.{ℕ, _-_}
 use borrow.Author.Needs.{needs}
 use Rattle.queue.proofs.Queue.drop_all.Statement.{statement}
 use Rattle.queue.proofs.Queue.drop_all.Tie as tie
-use Rattle.queue.proofs.Queue.drop_all.Reads as reads
-use Rattle.queue.proofs.Queue.drop_all.Lts as lts
-use Rattle.queue.proofs.home.Reads as home-reads
 
 home-requires : tie.Need-home-requires
 home-requires c κs = search needs

@@ -6,10 +6,6 @@ use Prim.Native.Nat.{ℕ, _-_, _%_}
 use borrow.Author.Needs.{needs}
 use Rattle.queue.proofs.Queue.drop_newest.Statement.{statement}
 use Rattle.queue.proofs.Queue.drop_newest.Tie as tie
-use Rattle.queue.proofs.Queue.drop_newest.Reads as reads
-use Rattle.queue.proofs.Queue.drop_newest.Lts as lts
-use Rattle.queue.proofs.Queue.fit.Reads as fit-reads
-use Rattle.queue.proofs.less.Reads as less-reads
 
 fit-requires : tie.Need-fit-requires
 fit-requires c κs = search needs

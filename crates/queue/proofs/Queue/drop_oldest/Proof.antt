@@ -9,11 +9,6 @@ use native.Mathlib.Omega.{arith}
 use borrow.Author.Needs.{needs}
 use Rattle.queue.proofs.Queue.drop_oldest.Statement.{statement}
 use Rattle.queue.proofs.Queue.drop_oldest.Tie as tie
-use Rattle.queue.proofs.Queue.drop_oldest.Reads as reads
-use Rattle.queue.proofs.Queue.drop_oldest.Lts as lts
-use Rattle.queue.proofs.Queue.fit.Reads as fit-reads
-use Rattle.queue.proofs.home.Reads as home-reads
-use Rattle.queue.proofs.least.Reads as least-reads
 
 fit-requires : tie.Need-fit-requires
 fit-requires c κs = search needs

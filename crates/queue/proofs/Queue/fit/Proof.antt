@@ -5,10 +5,6 @@ use Prim.Native.Nat.{ℕ, _-_, _%_}
 use borrow.Author.Needs.{needs}
 use Rattle.queue.proofs.Queue.fit.Statement.{statement}
 use Rattle.queue.proofs.Queue.fit.Tie as tie
-use Rattle.queue.proofs.Queue.fit.Reads as reads
-use Rattle.queue.proofs.Queue.fit.Lts as lts
-use Rattle.queue.proofs.home.Reads as home-reads
-use Rattle.queue.proofs.least.Reads as least-reads
 
 home-requires : tie.Need-home-requires
 home-requires c κs = search needs

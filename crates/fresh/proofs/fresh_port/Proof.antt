@@ -1,0 +1,31 @@
+-- `fresh::fresh_port` meets its contract. Assumes nothing.
+use Rattle.rules.specs.declared.Waiting.the-variants.{Idle}
+use Rattle.rules.specs.declared.Group.the-variants.{Nobody}
+use mathlib.Core.Bool.{false}
+use borrow.Author.Needs.{needs}
+use Rattle.fresh.proofs.fresh_port.Statement.{statement}
+use Rattle.fresh.proofs.fresh_port.Tie as tie
+
+defaults-requires : tie.Need-defaults-requires
+defaults-requires c κs = search needs
+
+fresh-requires : tie.Need-fresh-requires
+fresh-requires c κs = search needs
+
+fresh-requires-2 : tie.Need-fresh-requires-2
+fresh-requires-2 c κs = search needs
+
+returns : tie.Need-returns
+returns c =
+    λ i. record {
+      settings = c .before .before .defaults .ensures i;
+      line = 254;
+      input = c .before .fresh .ensures i;
+      output = c .fresh2 .ensures i;
+      foreground = Nobody;
+      hung = false;
+      waiting = Idle;
+    }
+
+pub fresh-port-spec : {M : Type 1} → statement M
+fresh-port-spec = tie.close (tie.spec defaults-requires fresh-requires fresh-requires-2 returns)

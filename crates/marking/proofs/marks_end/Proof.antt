@@ -1,0 +1,67 @@
+-- `marking::marks_end` meets its contract. Assumes nothing.
+use Rattle.storing.proofs.Laws.{end-room, ended-line, dropped-end, unseen}
+use Rattle.rules.specs.Sizes.{endOfFile}
+use mathlib.Core.List.{[]}
+use borrow.Author.Needs.{needs}
+use Rattle.marking.proofs.marks_end.Statement.{statement}
+use Rattle.marking.proofs.marks_end.Tie as tie
+
+end-fits-requires : tie.Need-end-fits-requires
+end-fits-requires c κs = search needs
+
+end-of-file-requires : tie.Need-end-of-file-requires
+end-of-file-requires c κs =
+    let start = c .before .before .before .before .before .before .before .before .before in
+    let p = start .args .p in
+    let bs = start .args .bytes .now in
+    let ms = start .args .marks .now in
+    let os = start .args .out .now in
+    end-room p bs ms os (start .pre) (c .before .before .before .end-fits .result) (c .before .before .before .end-fits .ensures) (c .before .before .if1 .taken)
+
+stored-requires : tie.Need-stored-requires
+stored-requires c κs = search needs
+
+same-length : tie.Need-same-length
+same-length c = search needs
+
+same-length-2 : tie.Need-same-length-2
+same-length-2 c = search needs
+
+returns : tie.Need-returns
+returns c =
+    let start = c .before .before .before .before .before .before .before .before .before .before .before .before .before .before .before .before in
+    let p = start .args .p in
+    let bs = start .args .bytes .now in
+    let ms = start .args .marks .now in
+    let os = start .args .out .now in
+    ended-line p bs ms os (start .pre) endOfFile [] (c .before .before .before .before .before .before .before .before .before .before .end-fits .result) (c .before .before .before .before .before .before .end-of-file .result) (p .output) (c .stored .result) (c .before .before .before .before .before .before .end-of-file .last .1 .0) (c .before .before .before .before .before .before .end-of-file .last .1 .1 .0) os (c .before .before .before .before .before .before .before .before .before .before .end-fits .ensures) (c .before .before .before .before .before .before .before .before .before .if1 .taken) (c .before .before .before .before .before .before .end-of-file .ensures)
+    (unseen p bs ms os (start .pre)) (c .stored .ensures)
+
+overflow-requires : tie.Need-overflow-requires
+overflow-requires c κs = search needs
+
+same-length-3 : tie.Need-same-length-3
+same-length-3 c = search needs
+
+returns-2 : tie.Need-returns-2
+returns-2 c =
+    let start = c .before .before .before .before .before .before .before .before .before .before .before in
+    let p = start .args .p in
+    let bs = start .args .bytes .now in
+    let ms = start .args .marks .now in
+    let os = start .args .out .now in
+    dropped-end p bs ms os (start .pre) endOfFile [] (c .before .before .before .before .before .end-fits .result) (c .before .before .overflow .result) (c .before .before .overflow .last .1 .1 .0) (c .before .before .before .before .before .end-fits .ensures) (c .before .before .before .before .if1 .left) (c .before .before .overflow .ensures)
+
+pub marks-end-spec : {M : Type 1} → statement M
+marks-end-spec =
+    tie.close
+    (tie.spec
+    end-fits-requires
+    end-of-file-requires
+    stored-requires
+    same-length
+    same-length-2
+    returns
+    overflow-requires
+    same-length-3
+    returns-2)
