@@ -23,7 +23,8 @@ use Rattle.port.specs.Contract.{Outcomes, refused, written, transmitted, result
 use Rattle.port.specs.declared.Port.{Port}
 use Rattle.port.specs.declared.Answered.{Answered}
 use Rattle.writing.proofs.Laws.{size-written}
-use Rattle.writing.proofs.Promises.{for-any-input, transmits-for-any-input, state-written, state-transmitted}
+use Rattle.writing.proofs.Promises.{for-any-input, state-written}
+use Rattle.transmitting.proofs.Promises.{transmits-for-any-input, state-transmitted}
 use Rattle.calling.specs.Contract.{stepOf, Calls, Asks, grouped, cancelled, answered}
 use Rattle.receiving.proofs.Promises.{received-now}
 use Rattle.calls.proofs.Promises.{grouped-now, cancelled-now}

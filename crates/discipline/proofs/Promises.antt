@@ -5,7 +5,7 @@ use Rattle.rules.specs.declared.Call.the-variants.{Set, Receive, Read, Write, T
 use Rattle.port.specs.Contract.{written, transmitted}
 use Rattle.port.specs.declared.Port.{Port}
 use Rattle.port.specs.declared.Answered.{Answered}
-use Rattle.writing.proofs.Promises.{one-answer}
+use Rattle.port.proofs.Results.{one-answer}
 use Rattle.calling.proofs.Promises.{one-call, one-asked}
 use Rattle.changes.proofs.Promises.{one-set}
 use Rattle.reads.proofs.Promises.{one-taken}

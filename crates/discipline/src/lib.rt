@@ -21,7 +21,7 @@ pub fn step(
         Call::Receive(e) => receiving::receive(p, bytes, marks, out, e),
         Call::Read { nonblocking } => reads::read(p, bytes, marks, lent, nonblocking),
         Call::Write => writing::write(p, out, lent),
-        Call::Transmit => writing::transmit(p, out, lent),
+        Call::Transmit => transmitting::transmit(p, out, lent),
         Call::Flush(choice) => flushes::flush(p, bytes, marks, out, choice),
         Call::Cancel => calls::cancel(p),
         Call::Foreground { group, orphaned } => calls::foreground(p, group, orphaned),

@@ -3,7 +3,7 @@
 use Prim.Native.Nat.{ℕ, zero, suc, _+_, _≤_}
 use native.Mathlib.Omega.{arith}
 use mathlib.Core.Path.{_≡_, refl, sym, ap, _∙_}
-use mathlib.Core.Bool.{Bool, true, false, _&&_, cond, false≢true}
+use mathlib.Core.Bool.{Bool, true, false, cond}
 use mathlib.Core.List.{List, [], _∷_, _++_, reverse, append-nil, append-assoc, reverse-append}
 use lib.ListN.{length, take, drop, length-append}
 use lib.Seq.{take-append-seam}
@@ -20,6 +20,7 @@ use Rattle.rules.specs.Editing.{Edit, erase, wordErase, kill, reprint, units, p
 use Rattle.rules.specs.Echo.{shown, editEcho}
 use Rattle.rules.specs.Fit.{unitFits, endFits, kept, ended, overflowOn, unitOn, storesUnit, endOn, storesEnd}
 use Rattle.rules.specs.Received.{Meaning, literalNext, signals, stops, starts, drops, edits, ends, marks, stores, step1, step2, step3, flushedUnless, editOn, carry, good, silently, breakOn, brokenOn, parityOn, hangupOn, event, receivedOn, received}
+use Rattle.rules.proofs.Truth.{and-true}
 use Rattle.input.proofs.Laws.{stored-length, kept-stored, ended-stored, kept-used, ended-used}
 use Rattle.editing.proofs.Laws.{places-units}
 use Rattle.following.specs.Following.{Follows, grown, fewer, Goes}
@@ -61,13 +62,9 @@ edited-cut x e v =
 
 ---- What fits
 
-and-second : (a b : Bool) → (a && b) ≡ true → b ≡ true
-and-second true b e = e
-and-second false b e = absurd (false≢true e)
-
 unit-room : (c : Bool) (z : Sizes) (i : Input) (n : ℕ) → unitFits c z i n ≡ true → used i + n ≤ z .input
 unit-room true z i n f =
-    omega (arith, ltb-true (used i + n) (z .input) (and-second (leb (length (i .current) + n) (z .line)) (ltb (used i + n) (z .input)) f))
+    omega (arith, ltb-true (used i + n) (z .input) (and-true (leb (length (i .current) + n) (z .line)) (ltb (used i + n) (z .input)) f .1))
 unit-room false z i n f = leb-true (used i + n) (z .input) f
 
 whole-queue : (size : ℕ) (x : Settings) (o : Output) (bs : List ℕ) → length (o .queue) ≤ size → length (queuedWhole size x o bs .queue) ≤ size

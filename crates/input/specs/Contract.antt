@@ -8,7 +8,7 @@ use lib.ListN.{length, take, drop}
 use lib.Dec.{eqb}
 use Rattle.queue.specs.Ring.{stores}
 use Rattle.queue.specs.Queue.{held, fitted as queueFitted}
-use Rattle.rules.specs.Sizes.{Place, Input as Ruled, used, unit, delimiter}
+use Rattle.rules.specs.Sizes.{Place, Input as Ruled, used, unit}
 use Rattle.rules.specs.Settings.{stored}
 use Rattle.rules.specs.Fit.{endFits, unitFits}
 use Rattle.input.specs.declared.Input.{Input}

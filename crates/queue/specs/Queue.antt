@@ -1,6 +1,6 @@
 -- A queue in a lent slice of any length: what it holds, and what each function promises.
 -- On the right of each equation stand values at entry only.
-use Prim.Native.Nat.{ℕ, _+_, _-_, _%_, min}
+use Prim.Native.Nat.{ℕ, _+_, _%_, min}
 use mathlib.Core.Path.{_≡_}
 use mathlib.Core.Bool.{cond}
 use mathlib.Core.List.{List, _++_}

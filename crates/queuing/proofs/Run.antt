@@ -14,7 +14,7 @@ use Rattle.rules.specs.Sizes.{Output as Ruled}
 use Rattle.rules.specs.Output.{expand, columnAfter, columnsAfter, processed, queued, queuedWhole, written, taken}
 use Rattle.rules.specs.Echo.{rubout}
 use Rattle.rules.proofs.OutputLaws.{written-next}
-use Rattle.output.specs.Contract.{inRange, get, put, Becomes}
+use Rattle.output.specs.Contract.{inRange, get, Becomes}
 use Rattle.queuing.specs.Contract.{Writes, takes}
 use Rattle.columns.specs.Contract.{Measures, Extends}
 use Rattle.output.specs.declared.Output.{Output}

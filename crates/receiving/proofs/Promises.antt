@@ -7,7 +7,6 @@ use Rattle.rules.specs.declared.Event.{Event}
 use Rattle.port.specs.State.{sizes, get}
 use Rattle.port.specs.declared.Port.{Port}
 use Rattle.port.specs.declared.Answered.{Answered}
-use Rattle.assembling.specs.Contract.{state}
 use Rattle.following.proofs.Laws.{received-goes}
 use Rattle.calling.specs.Contract.{stepOf, Calls, Now}
 use Rattle.calling.proofs.Promises.{left-now, within-places, within-queue}

@@ -11,7 +11,7 @@ use Rattle.rules.specs.Refusals.{Reply, says, sends, gives}
 use Rattle.rules.specs.Output.{expand, columnAfter}
 use Rattle.rules.specs.Step.{Asked}
 use Rattle.rules.specs.Trace.{text}
-use Rattle.rules.proofs.Check.{theRules, Example, answers, Holds}
+use Rattle.rules.proofs.Check.{theRules, Example, Holds}
 
 ---- Names for calls and answers
 

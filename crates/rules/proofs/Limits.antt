@@ -2,7 +2,7 @@
 use Prim.Native.Nat.{ℕ, zero, suc, _+_, _≤_}
 use native.Mathlib.Omega.{arith}
 use mathlib.Core.Path.{_≡_, refl, ap, _∙_}
-use mathlib.Core.Bool.{Bool, true, false, _&&_, _||_, cond, true≢false, false≢true}
+use mathlib.Core.Bool.{Bool, true, false, _&&_, _||_, cond}
 use mathlib.Core.List.{List, [], _∷_, _++_, reverse}
 use lib.ListN.{length, take, drop, length-append, length-reverse, length-drop}
 use lib.Dec.{ltb, leb, eqb}
@@ -18,20 +18,9 @@ use Rattle.rules.specs.Fit.{unitFits, endFits, keptIn, kept, ended, over
 use Rattle.rules.specs.Received.{Meaning, literalNext, signals, stops, starts, drops, edits, ends, marks, stores, step1, step2, step3, step8, step9, mapped, flushedUnless, editOn, carry, good, silently, breakOn, brokenOn, parityOn, hungUp, hangupOn, event, receivedOn}
 use Rattle.rules.specs.Reads.{Part, firstLine, partOf, finish, isEmpty, doneOn, ruledOn, clashes, readOn}
 use Rattle.rules.specs.Verdicts.{tooLarge, foregroundOn, judgedOn, readVerdict, writeVerdict, settingsVerdict}
+use Rattle.rules.proofs.Truth.{either, or-false, and-true}
 use Rattle.rules.proofs.OutputLaws.{taken-fits}
-use Rattle.rules.specs.Step.{aReadWaits, setOn, step, Asked, stepOf, run, after}
-
-either : {A : Type 0} (P : A → Type 0) (c : Bool) {a b : A} → P a → P b → P (cond c a b)
-either P true h k = h
-either P false h k = k
-
-or-false : (a b : Bool) → (a || b) ≡ false → (a ≡ false) × (b ≡ false)
-or-false true b e = absurd (true≢false e)
-or-false false b e = (refl, e)
-
-and-true : (a b : Bool) → (a && b) ≡ true → (a ≡ true) × (b ≡ true)
-and-true true b e = (refl, e)
-and-true false b e = absurd (false≢true e)
+use Rattle.rules.specs.Step.{aReadWaits, setOn, step, Asked, stepOf, after}
 
 ---- The bounds
 

@@ -13,9 +13,10 @@ use Rattle.rules.specs.Fit.{storesUnit}
 use Rattle.rules.specs.Received.{stores, step1, step2, step3, carry, good, silently, breakOn, brokenOn, parityOn, event, receivedOn}
 use Rattle.rules.specs.Verdicts.{tooLarge, judgedOn, readVerdict, writeVerdict, settingsVerdict}
 use Rattle.rules.specs.Step.{reports, step}
+use Rattle.rules.proofs.Truth.{either}
 use Rattle.secrecy.specs.Statement.{KeepsSettings, Quiet, Plain, Brings, good as brought, parity}
 use Rattle.secrecy.proofs.Rename.{state, both, outcome, silently-to, carry-to, read-to, hangupOn-to, writtenOn-to, flushedOn-to, foregroundOn-to}
-use Rattle.secrecy.proofs.Meanings.{either, plain-stores, blind, meaning-left}
+use Rattle.secrecy.proofs.Meanings.{plain-stores, blind, meaning-left}
 
 strip-below : (x : Settings) (b n : ℕ) → b < n → step1 x b < n
 strip-below x b n h = either (λ (c : ℕ). c < n) (x .istrip) (omega arith) h

@@ -12,16 +12,9 @@ use Rattle.rules.specs.Settings.{elem, enabled, is, enabledOf, characters}
 use Rattle.rules.specs.Echo.{storedEcho}
 use Rattle.rules.specs.Editing.{erase, kill, reprint}
 use Rattle.rules.specs.Received.{Meaning, ends, stores, doubled, plainly, step9, step8, mapped, step7, step4, step3}
+use Rattle.rules.proofs.Truth.{either, or-false}
 use Rattle.secrecy.specs.Statement.{reserved}
 use Rattle.secrecy.proofs.Rename.{Blind, meant}
-
-pub either : {A : Type 0} (P : A → Type 0) (c : Bool) {a b : A} → P a → P b → P (cond c a b)
-either P true h k = h
-either P false h k = k
-
-or-false : (a b : Bool) → (a || b) ≡ false → (a ≡ false) × (b ≡ false)
-or-false true b e = absurd (true≢false e)
-or-false false b e = (refl, e)
 
 ---- A plain byte
 

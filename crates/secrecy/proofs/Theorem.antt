@@ -13,6 +13,7 @@ use Rattle.rules.specs.Settings.{elem}
 use Rattle.rules.specs.Refusals.{Reply, says}
 use Rattle.rules.specs.Received.{step1}
 use Rattle.rules.specs.Step.{Asked, stepOf, run}
+use Rattle.rules.proofs.Truth.{and-true}
 use Rattle.secrecy.specs.Statement.{Each, none, more, nth, KeepsSettings, Quiet, reserved, Brings, good, parity, MayDiffer, same, differ, Delivered, equal, ofEvent, Alike, Secret}
 use Rattle.secrecy.specs.Reports.{Given, fixed, ofCall, Report, byteIn, byteOf, replyOf, OneReport}
 use Rattle.secrecy.proofs.Rename.{places, state, reply, both}
@@ -44,10 +45,6 @@ hides x (Foreground group orphaned) = false
 hides x (ReadVerdict p) = false
 hides x (WriteVerdict p) = false
 hides x (SettingsVerdict p) = false
-
-and-true : (a b : Bool) → (a && b) ≡ true → (a ≡ true) × (b ≡ true)
-and-true true b e = (refl, e)
-and-true false b e = absurd (false≢true e)
 
 event-brings : (x : Settings) (e : Event) → hidesEvent x e ≡ true → Brings x (Receive e) (byteIn (Receive e))
 event-brings x (Good b) h = good (not-true _ h)

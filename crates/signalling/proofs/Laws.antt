@@ -1,6 +1,6 @@
 -- One lemma for each way out of the functions of this crate. Assumes nothing.
 use mathlib.Core.Path.{_≡_, refl, sym, ap, _∙_}
-use mathlib.Core.Bool.{Bool, true, false, not}
+use mathlib.Core.Bool.{Bool, true, false}
 use mathlib.Core.List.{List, []}
 use Prim.Native.Nat.{ℕ, _%_}
 use native.Mathlib.Nat.{mod-mod}

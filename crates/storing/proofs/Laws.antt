@@ -1,6 +1,6 @@
 -- One lemma for each way out of the functions that store. Assumes nothing.
 use mathlib.Core.Path.{_≡_, refl, sym, ap, _∙_}
-use mathlib.Core.Bool.{Bool, true, false, _&&_, false≢true}
+use mathlib.Core.Bool.{Bool, true, false}
 use mathlib.Core.List.{List, []}
 use Prim.Native.Nat.{ℕ, _+_, _≤_}
 use native.Mathlib.Omega.{arith}
@@ -8,10 +8,11 @@ use lib.ListN.{length}
 use lib.Dec.{leb, ltb}
 use borrow.Author.Tests.{leb-true, ltb-true}
 use Rattle.rules.specs.declared.Waiting.{Waiting}
-use Rattle.rules.specs.Sizes.{Sizes, State, Place, used, unit}
+use Rattle.rules.specs.Sizes.{Sizes, State, Place, used}
 use Rattle.rules.specs.Flushing as flushing
 use Rattle.rules.specs.Fit as fit
 use Rattle.rules.specs.Echo.{shown}
+use Rattle.rules.proofs.Truth.{and-true}
 use Rattle.input.specs.Contract as input
 use Rattle.input.specs.declared.Input.{Input}
 use Rattle.input.proofs.Laws as stored
@@ -22,10 +23,6 @@ use Rattle.echo.proofs.Laws.{shows-none}
 use Rattle.port.specs.declared.Port.{Port}
 use Rattle.assembling.specs.Contract.{state, sizesOf, Ready, Becomes, Turns, assembled}
 use Rattle.assembling.proofs.Laws.{as-state, as-assembled}
-
-and-right : (a b : Bool) → (a && b) ≡ true → b ≡ true
-and-right true b e = e
-and-right false b e = absurd (false≢true e)
 
 ---- A unit k, and what it shows: bytes e, by which the output becomes o
 
@@ -48,7 +45,7 @@ module _ (p : Port) (bs ms os : List ℕ) (g : Ready p bs ms os) where
       omega (
         arith,
         ltb-true (used (input.get (p .input) bs ms) + k) (length bs)
-            (and-right (leb (length (input.get (p .input) bs ms .current) + k) (p .line)) (ltb (used (input.get (p .input) bs ms) + k) (length bs)) f),
+            (and-true (leb (length (input.get (p .input) bs ms .current) + k) (p .line)) (ltb (used (input.get (p .input) bs ms) + k) (length bs)) f .1),
         places-used,
       )
   unit-free false k f = omega (arith, leb-true (used (input.get (p .input) bs ms) + k) (length bs) f, places-used)

@@ -25,7 +25,7 @@ pub fn write_through(p: Port, out: &mut [u8], src: &[u8], dst: &mut [u8]) -> Mov
     let a = writing::write(p, out, src);
     let q = a.port;
     let n = taken(a);
-    let b = writing::transmit(q, out, dst);
+    let b = transmitting::transmit(q, out, dst);
     let t = b.port;
     let given = taken(b);
     let c = writing::write(t, out, &src[n..]);

@@ -4,29 +4,25 @@ use native.Mathlib.Nat.{zero-add}
 use native.Mathlib.Numerals.{add-one}
 use native.Mathlib.Omega.{arith}
 use mathlib.Core.Path.{_≡_, refl, sym, ap, ap₂, subst, _∙_}
-use mathlib.Core.Bool.{Bool, true, false, _&&_, _||_}
+use mathlib.Core.Bool.{Bool, true, false}
 use mathlib.Core.List.{List, _++_, append-assoc}
 use lib.ListN.{length, take, drop, getD, set, length-append, replicate}
 use lib.Seq.{paste, paste-zero, paste-suc, length-paste, length-take-le, take-at, take-all}
-use lib.Dec.{eqb, ltb}
+use lib.Dec.{eqb}
 use Rattle.rules.specs.declared.Answer.{Answer}
 use Rattle.rules.specs.declared.Call.{Call}
 use Rattle.rules.specs.declared.Call.the-variants.{Set, Receive, Read, Write, Transmit, Flush, Cancel, Foreground, ReadVerdict, WriteVerdict, SettingsVerdict}
 use Rattle.rules.specs.declared.Outcome.the-variants.{Refused}
 use Rattle.rules.specs.declared.Refusal.the-variants.{OutOfRange}
-use Rattle.rules.specs.declared.Settings.{Settings}
-use Rattle.rules.specs.declared.Verdict.{Verdict}
 use Rattle.rules.specs.Sizes.{Sizes, State}
-use Rattle.rules.specs.Settings.{acceptable}
 use Rattle.rules.specs.Refusals.{Reply, handed}
-use Rattle.rules.specs.Flushing as flushing
 use Rattle.rules.specs.Output as rule
 use Rattle.rules.specs.Reads as reads
-use Rattle.rules.specs.Verdicts as verdict
-use Rattle.rules.specs.Step.{step, setOn, aReadWaits}
+use Rattle.rules.specs.Step.{step}
 use Rattle.rules.specs.Trace.{decode, answered, asks, wellFormed, malformed}
 use Rattle.rules.specs.Trace as trace
 use Rattle.rules.proofs.OutputLaws.{append-nil}
+use Rattle.rules.proofs.Handed.{HandsNone, none-handed}
 use Rattle.port.specs.State.{sizes, get}
 use Rattle.port.specs.declared.Port.{Port}
 use Rattle.port.specs.declared.Answered.{Answered}
@@ -84,11 +80,6 @@ module _ (z : Sizes) (s : State) (l : List ℕ) where
   abbrev Counted : Call → Reply → Type 0
   Counted call r = length (handed r) ≡ givenOf call (r .answer .count)
 
-  set-counted : (x : Settings) (a b : Bool) → Counted (Set x) (setOn a b s x .1)
-  set-counted x true b = refl
-  set-counted x false true = refl
-  set-counted x false false = refl
-
   ruled-counted : (nonblocking a b c : Bool) (n : ℕ) → Counted (Read nonblocking) (reads.ruledOn a b c s n .1)
   ruled-counted nonblocking true true c n = refl
   ruled-counted nonblocking true false c n = refl
@@ -102,41 +93,22 @@ module _ (z : Sizes) (s : State) (l : List ℕ) where
   read-counted false false false nonblocking n =
       ruled-counted nonblocking nonblocking (reads.isEmpty (s .input .finished)) (reads.doneOn (s .settings .icanon) s n) n
 
-  write-counted : (a b : Bool) (n : ℕ) → Counted Write (rule.writtenOn a b s l n .1)
-  write-counted true b n = refl
-  write-counted false true n = refl
-  write-counted false false n = refl
-
-  flush-counted : (choice : ℕ) (a b c : Bool) → Counted (Flush choice) (flushing.flushedOn a b c s .1)
-  flush-counted choice true b c = refl
-  flush-counted choice false true c = refl
-  flush-counted choice false false true = refl
-  flush-counted choice false false false = refl
-
-  group-counted : (group : ℕ) (orphaned a : Bool) → Counted (Foreground group orphaned) (verdict.foregroundOn a s group orphaned .1)
-  group-counted group orphaned true = refl
-  group-counted group orphaned false = refl
-
-  judged-none : (a : Bool) (v : Verdict) → length (handed (verdict.judgedOn a s v .1)) ≡ 0
-  judged-none true v = refl
-  judged-none false v = refl
+  handed-none : (call : Call) → HandsNone call → length (handed (step z s call l .1)) ≡ 0
+  handed-none call k = ap length (none-handed s z call l k)
 
   pub handed-count : (call : Call) → Counted call (step z s call l .1)
-  handed-count (Set x) = set-counted x (aReadWaits (s .waiting)) (acceptable x)
-  handed-count (Receive e) = refl
+  handed-count (Set x) = handed-none (Set x) tt
+  handed-count (Receive e) = handed-none (Receive e) tt
   handed-count (Read nonblocking) =
       read-counted (s .hungUp) (reads.clashes (s .waiting) nonblocking (length l)) (eqb (length l) 0) nonblocking (length l)
-  handed-count Write =
-      let n : ℕ = rule.taken (z .output) (s .settings) (length (s .output .queue)) (s .output .column) l in
-      write-counted (s .hungUp) (ltb 0 (length l) && eqb n 0) n
+  handed-count Write = handed-none Write tt
   handed-count Transmit = ap length (append-nil (rule.oldest (s .output) (length l)))
-  handed-count (Flush choice) = flush-counted choice (eqb choice 1) (eqb choice 2) (eqb choice 3)
-  handed-count Cancel = refl
-  handed-count (Foreground group orphaned) = group-counted group orphaned (verdict.tooLarge group)
-  handed-count (ReadVerdict p) = judged-none (verdict.tooLarge (p .group) || eqb (p .group) 0) (verdict.readVerdict (s .foreground) p)
-  handed-count (WriteVerdict p) =
-      judged-none (verdict.tooLarge (p .group) || eqb (p .group) 0) (verdict.writeVerdict (s .settings .tostop) (s .foreground) p)
-  handed-count (SettingsVerdict p) = judged-none (verdict.tooLarge (p .group) || eqb (p .group) 0) (verdict.settingsVerdict (s .foreground) p)
+  handed-count (Flush choice) = handed-none (Flush choice) tt
+  handed-count Cancel = handed-none Cancel tt
+  handed-count (Foreground group orphaned) = handed-none (Foreground group orphaned) tt
+  handed-count (ReadVerdict p) = handed-none (ReadVerdict p) tt
+  handed-count (WriteVerdict p) = handed-none (WriteVerdict p) tt
+  handed-count (SettingsVerdict p) = handed-none (SettingsVerdict p) tt
 
 ---- The call of a record is made with what the rules lend
 

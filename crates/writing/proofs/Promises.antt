@@ -1,29 +1,19 @@
--- What the promises are worth: no second result meets one, the rules answer the same whatever the input is, and the state
--- after a call is the rules' next state. Assumes nothing.
-use mathlib.Core.Path.{_≡_, refl, sym, ap, _∙_}
+-- What the promise of a write is worth: the rules answer the same whatever the input is, and the state after a call is the
+-- rules' next state. Assumes nothing.
+use mathlib.Core.Path.{_≡_, refl}
 use mathlib.Core.Bool.{Bool, true, false, _&&_}
 use mathlib.Core.List.{List, []}
-use Prim.Native.Nat.{ℕ, _+_, _%_, _≤_}
-use native.Mathlib.Omega.{arith}
-use lib.ListN.{length, take, length-drop}
+use Prim.Native.Nat.{ℕ, _%_}
+use lib.ListN.{length, take}
 use lib.Dec.{ltb, eqb}
-use Rattle.queue.specs.Ring.{stores}
-use Rattle.rules.specs.Sizes.{Output as Ruled, withOutput as outputReplaced}
 use Rattle.rules.specs.Output as rule
 use Rattle.rules.proofs.OutputLaws.{taken-fits}
 use Rattle.output.specs.Contract as output
 use Rattle.output.proofs.Laws as law
-use Rattle.port.specs.State.{sizes, get, withOutput}
-use Rattle.port.specs.Contract.{Outcomes, writtenBy, written, transmitted, result}
+use Rattle.port.specs.State.{sizes, get}
+use Rattle.port.specs.Contract.{writtenBy, written}
 use Rattle.port.specs.declared.Port.{Port}
-use Rattle.port.specs.declared.Answered.{Answered}
-
----- No second result
-
-pub one-answer : (o : Outcomes) (r q : Answered) (m k d e : List ℕ) → result r m d ≡ o → result q k e ≡ o → (r ≡ q) × (m ≡ k) × (d ≡ e)
-one-answer o r q m k d e a b =
-    let s : result r m d ≡ result q k e = a ∙ sym b in
-    (ap (λ (y : Outcomes). record { port = y .port; answer = y .answer }) s, ap (λ (y : Outcomes). y .slice) s, ap (λ (y : Outcomes). y .lent) s)
+use Rattle.port.proofs.Results.{get-with}
 
 ---- Whatever the input is
 
@@ -40,17 +30,7 @@ for-any-input p bs ms os src = by (p .hung) (ltb 0 (length src) && eqb n 0)
     by false true = refl
     by false false = refl
 
-pub transmits-for-any-input : (p : Port) (bs ms os : List ℕ) (n : ℕ) → rule.transmit (get p bs ms os) n .1 ≡ rule.transmit (get p [] [] os) n .1
-unfolding get
-transmits-for-any-input p bs ms os n = refl
-
 ---- The state after
-
--- the port with its output replaced, as a state
-get-with : (p : Port) (bs ms os : List ℕ) (w : Ruled) (h : ℕ) → length (w .queue) ≤ length os
-    → get (withOutput p (output.put w h)) bs ms (stores (length os) os h (w .queue)) ≡ outputReplaced (get p bs ms os) w
-unfolding get
-get-with p bs ms os w h le = ap (outputReplaced (get p bs ms os)) (law.get-put w h os le)
 
 pub state-written : (p : Port) (bs ms os src : List ℕ)
     → get (written p os src .port) bs ms (written p os src .slice) ≡ rule.write (sizes p bs ms os) (get p bs ms os) src .0
@@ -67,11 +47,3 @@ state-written p bs ms os src = by (p .hung) (ltb 0 (length src) && eqb n 0)
     by false false =
         get-with p bs ms os (rule.written (p .settings) (output.get (p .output) os) (take n src)) (p .output .queue .head % length os)
         (taken-fits (length os) (p .settings) (output.get (p .output) os) src (law.get-room (p .output) os))
-
-pub state-transmitted : (p : Port) (bs ms os d : List ℕ)
-    → get (transmitted p os d .port) bs ms (transmitted p os d .slice) ≡ rule.transmit (get p bs ms os) (length d) .0
-unfolding transmitted get
-state-transmitted p bs ms os d =
-    let k : ℕ = length (rule.oldest (output.get (p .output) os) (length d)) in
-    get-with p bs ms os (rule.transmit (get p [] [] os) (length d) .0 .output) ((p .output .queue .head + k) % length os)
-    (omega (arith, length-drop k (output.get (p .output) os .queue), law.get-room (p .output) os))

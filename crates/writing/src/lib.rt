@@ -1,4 +1,4 @@
-// Document 01, 'Output': the calls that write and transmit, for every value of port and slice.
+// Document 01, 'Output': the call that writes, for every value of port and slice.
 ghost use mathlib.Core.Path.{_≡_};
 ghost use mathlib.Core.Bool.{_&&_};
 ghost use lib.Dec.{ltb, eqb};
@@ -35,15 +35,4 @@ pub fn write(p: Port, out: &mut [u8], src: &[u8]) -> Answered
     let output = w.output;
     let after = p.with_output(output);
     port::says(after, Outcome::Ok, count)
-}
-
-// 'Transmit hands out the oldest queued bytes, none while stopped.'
-pub fn transmit(p: Port, out: &[u8], dst: &mut [u8]) -> Answered
-    ensures { λ r. ⌜ promise.result r (now (out .entry)) (now (dst .exit)) ≡ promise.transmitted p (now (out .entry)) (now (dst .entry)) ⌝ }
-{
-    let o = p.output;
-    let s = o.transmit(out, dst);
-    let output = s.output;
-    let after = p.with_output(output);
-    port::says(after, Outcome::Ok, s.count)
 }

@@ -1,5 +1,5 @@
 -- `bodies::count_of` meets its contract. Assumes nothing.
-use mathlib.Core.Path.{_≡_, ap₂, _∙_}
+use mathlib.Core.Path.{ap₂, _∙_}
 use Rattle.rules.specs.Trace.{two}
 use borrow.Author.Needs.{needs}
 use Rattle.bodies.proofs.count_of.Statement.{statement}

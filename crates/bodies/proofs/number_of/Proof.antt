@@ -1,5 +1,5 @@
 -- `bodies::number_of` meets its contract. Assumes nothing.
-use mathlib.Core.Path.{_≡_, _∙_}
+use mathlib.Core.Path.{_∙_}
 use Rattle.rules.specs.Trace.{four}
 use borrow.Author.Needs.{needs}
 use Rattle.bodies.proofs.number_of.Statement.{statement}

@@ -2,7 +2,6 @@
 use Rattle.output.proofs.Laws.{fits-of, full-of}
 use mathlib.Core.List.{[], _∷_}
 use native.Mathlib.Omega.{arith}
-use Prim.Native.Nat.{_-_}
 use borrow.Author.Needs.{needs}
 use Rattle.queuing.proofs.bell.Statement.{statement}
 use Rattle.queuing.proofs.bell.Tie as tie

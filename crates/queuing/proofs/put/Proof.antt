@@ -2,13 +2,13 @@
 use Rattle.queuing.proofs.Run.{turns}
 use Rattle.output.proofs.Laws.{range-none, get-length, len-now, same-size, twice}
 use Rattle.expansion.specs.declared.Expansion.{Expansion}
-use Rattle.output.specs.Contract.{get, put}
+use Rattle.output.specs.Contract.{get}
 use Rattle.expansion.specs.Contract.{bytesOf}
 use Rattle.rules.specs.Output.{queued}
 use mathlib.Core.List.{[], _∷_}
 use lib.ListN.{length, length-replicate}
 use native.Mathlib.Omega.{arith}
-use Prim.Native.Nat.{_+_, _-_, min}
+use Prim.Native.Nat.{_+_, min}
 use mathlib.Core.Path.{_≡_, ap, _∙_}
 use borrow.Author.Needs.{needs}
 use Rattle.queuing.proofs.put.Statement.{statement}

@@ -1,7 +1,6 @@
 -- `queuing::put_spaces` meets its contract. Assumes nothing.
 use Rattle.rules.specs.Sizes.{Output as Ruled}
 use borrow.Author.Needs.{needs}
-use Rattle.output.specs.declared.Output.{Output}
 use native.Mathlib.Nat.{le-antisymm}
 use Rattle.columns.proofs.Columns.{replicate-snoc}
 use Rattle.output.proofs.Laws.{range-len, range-get, start-run, same-size, len-now, twice, via-range}

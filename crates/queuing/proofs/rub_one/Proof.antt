@@ -5,7 +5,7 @@ use lib.ListN.{length}
 use Rattle.output.specs.Contract.{get, Becomes}
 use mathlib.Core.List.{[], _∷_}
 use native.Mathlib.Omega.{arith}
-use Prim.Native.Nat.{_+_, _-_, min}
+use Prim.Native.Nat.{_+_, min}
 use mathlib.Core.Path.{_≡_}
 use borrow.Author.Needs.{needs}
 use Rattle.queuing.proofs.rub_one.Statement.{statement}

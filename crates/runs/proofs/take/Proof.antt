@@ -2,7 +2,6 @@
 use Prim.Native.Nat.{_-_}
 use native.Mathlib.Omega.{arith}
 use borrow.Author.Needs.{needs}
-use lib.ListN.{length}
 use Rattle.queue.specs.Queue.{held}
 use Rattle.runs.proofs.Laws.{Copied, as-wide, copy-begin, copy-next, taken}
 use Rattle.runs.proofs.take.Statement.{statement}

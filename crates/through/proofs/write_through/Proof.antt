@@ -6,7 +6,7 @@ use Rattle.through.proofs.Laws.{count-le, through-of}
 use Rattle.writing.proofs.Laws.{size-written}
 use Rattle.port.specs.Contract.{Outcomes}
 use lib.ListN.{length, drop}
-use Prim.Native.Nat.{_+_, _-_}
+use Prim.Native.Nat.{_+_}
 use native.Mathlib.Omega.{arith}
 use mathlib.Core.Path.{_≡_, ap, ap₂, _∙_}
 use borrow.Author.Needs.{needs}

@@ -1,6 +1,5 @@
 -- `output::Output::measure` meets its contract. Assumes nothing.
 use Rattle.output.proofs.Measured.{measure-begins}
-use Prim.Native.Nat.{_-_}
 use native.Mathlib.Omega.{arith}
 use Rattle.queue.specs.declared.Queue.{Queue}
 use mathlib.Core.Path.{ap}

@@ -3,7 +3,7 @@ use Rattle.queue.proofs.Laws.{place-lt}
 use Rattle.queue.proofs.Laws.{fit-len, fit-head, fit-lt, changed-in, changed-out}
 use lib.ListN.{length}
 use mathlib.Core.Path.{_≡_}
-use Prim.Native.Nat.{ℕ, _+_, _-_, min}
+use Prim.Native.Nat.{ℕ, _+_, min}
 use native.Mathlib.Omega.{arith}
 use borrow.Author.Needs.{needs}
 use Rattle.queue.proofs.Queue.change.Statement.{statement}

@@ -1,7 +1,6 @@
 -- `queue::Queue::drop_all` meets its contract. Assumes nothing.
-use Rattle.queue.specs.declared.Queue.{Queue}
 use mathlib.Core.Path.{ap}
-use Prim.Native.Nat.{ℕ, _-_}
+use Prim.Native.Nat.{ℕ}
 use borrow.Author.Needs.{needs}
 use Rattle.queue.proofs.Queue.drop_all.Statement.{statement}
 use Rattle.queue.proofs.Queue.drop_all.Tie as tie

@@ -1,6 +1,5 @@
 -- `queue::Queue::drop_newest` meets its contract. Assumes nothing.
 use Rattle.queue.proofs.Laws.{fit-len, fit-head}
-use Rattle.queue.specs.declared.Queue.{Queue}
 use mathlib.Core.Path.{ap, _∙_}
 use Prim.Native.Nat.{ℕ, _-_, _%_}
 use borrow.Author.Needs.{needs}

@@ -4,7 +4,7 @@ use Rattle.queue.proofs.Rings.{lt-or-le}
 use Rattle.queue.proofs.Laws.{fit-len, fit-lt, drop-oldest-of}
 use lib.ListN.{length}
 use mathlib.Core.Path.{_≡_}
-use Prim.Native.Nat.{ℕ, _-_, _<_, _≤_, min}
+use Prim.Native.Nat.{ℕ, _<_, _≤_, min}
 use native.Mathlib.Omega.{arith}
 use borrow.Author.Needs.{needs}
 use Rattle.queue.proofs.Queue.drop_oldest.Statement.{statement}

@@ -1,7 +1,6 @@
 -- `queue::Queue::fit` meets its contract. Assumes nothing.
-use Rattle.queue.specs.declared.Queue.{Queue}
 use mathlib.Core.Path.{ap, _∙_}
-use Prim.Native.Nat.{ℕ, _-_, _%_}
+use Prim.Native.Nat.{ℕ, _%_}
 use borrow.Author.Needs.{needs}
 use Rattle.queue.proofs.Queue.fit.Statement.{statement}
 use Rattle.queue.proofs.Queue.fit.Tie as tie

@@ -3,7 +3,7 @@ use Rattle.queue.proofs.Laws.{place-lt}
 use Rattle.queue.proofs.Laws.{fit-len, fit-lt, push-of, push-full-of}
 use lib.ListN.{length}
 use mathlib.Core.Path.{_≡_}
-use Prim.Native.Nat.{ℕ, _+_, _-_, min}
+use Prim.Native.Nat.{ℕ, _+_, min}
 use native.Mathlib.Omega.{arith}
 use borrow.Author.Needs.{needs}
 use Rattle.queue.proofs.Queue.push.Statement.{statement}

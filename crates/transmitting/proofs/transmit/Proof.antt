@@ -1,8 +1,8 @@
--- `writing::transmit` meets its contract. Assumes nothing.
-use Rattle.writing.proofs.Laws.{sent-of}
+-- `transmitting::transmit` meets its contract. Assumes nothing.
+use Rattle.transmitting.proofs.Laws.{sent-of}
 use borrow.Author.Needs.{needs}
-use Rattle.writing.proofs.transmit.Statement.{statement}
-use Rattle.writing.proofs.transmit.Tie as tie
+use Rattle.transmitting.proofs.transmit.Statement.{statement}
+use Rattle.transmitting.proofs.transmit.Tie as tie
 
 transmit-requires : tie.Need-transmit-requires
 transmit-requires c κs = search needs
