@@ -1,6 +1,5 @@
 // Document 01, 'Reads': a tick lowers the timer of a waiting read, and at zero it has expired.
 ghost use mathlib.Core.Path.{_≡_};
-ghost use Prim.Native.Nat.{_-_};
 ghost use Rattle.rules.specs.Received as received;
 ghost use Rattle.rules.specs.Reads as read;
 use rules::Waiting;

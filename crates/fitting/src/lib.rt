@@ -1,6 +1,4 @@
 // Document 01, 'Received events': what fits.
-ghost use mathlib.Core.Bool.{false};
-ghost use Rattle.rules.specs.Sizes.{unit};
 ghost use Rattle.input.specs.Contract.{Within, TellsUnit, TellsEnd};
 use input::Input;
 

@@ -1,6 +1,5 @@
 // Document 01, 'Reads': when what is stored is enough for a read.
 ghost use mathlib.Core.Path.{_≡_};
-ghost use mathlib.Core.Bool.{_||_};
 ghost use Prim.Native.Nat.{min};
 ghost use Rattle.rules.specs.Reads as read;
 use rules::Settings;
