@@ -17,7 +17,7 @@ use Rattle.rules.specs.Editing.{joined, units, placesOf, withoutUnits, trailing
 use Rattle.rules.specs.declared.Settings.{Settings}
 use Rattle.input.specs.Contract.{all, get, lineTo, shortened, Within, Becomes}
 use Rattle.input.specs.declared.Input.{Input}
-use Rattle.input.proofs.Laws.{places-at, all-length, line-whole, cut-becomes, After, cut-after}
+use Rattle.input.proofs.Laws.{places-at, all-length, line-whole, cut-becomes}
 use Rattle.editing.specs.Contract.{placeAt, placesIn, unitsTo, Line, Starts, Cuts, Removes}
 use Rattle.editing.specs.declared.Run.{Run}
 
@@ -289,10 +289,6 @@ module _ (i : Input) (bs ms : List ℕ) (x : Settings) (edit : Edit) (r : Run) (
   pub edited-becomes : Becomes i bs ms (edited x edit (get i bs ms)) (shortened (r .at) i) bs ms
   unfolding get
   edited-becomes = rw (← a .line) (cut-becomes i bs ms e (r .at) (rw e h) (a .low))
-
-  pub edited-after : After (edited x edit (get i bs ms)) bs ms (shortened (r .at) i) bs ms
-  unfolding get
-  edited-after = rw (← a .line) (cut-after i bs ms e (r .at) (rw e h) (a .low))
 
 -- a mark that was read, and what was asked of it
 pub asked-start : (m v : ℕ) (r t : Bool) → m ≡ v → r ≡ eqb (m % 2) 1 → r ≡ t → eqb (v % 2) 1 ≡ t

@@ -1,11 +1,11 @@
 -- No line has more than 4,123 bytes. Assumes nothing.
-use Prim.Native.Nat.{ℕ, zero, suc, _+_, _/_, _%_, _≤_}
+use Prim.Native.Nat.{ℕ, _+_, _≤_}
 use native.Mathlib.Omega.{arith}
 use mathlib.Core.Path.{_≡_, refl}
 use mathlib.Core.Bool.{Bool, true, false, cond}
 use mathlib.Core.List.{List, [], _∷_, _++_}
 use lib.ListN.{length, take, length-append, length-take}
-use lib.Dec.{ltb, eqb}
+use lib.Dec.{eqb}
 use Rattle.rules.specs.declared.Call.{Call}
 use Rattle.rules.specs.declared.Call.the-variants.{Set, Receive, Read, Write, Transmit, Flush, Cancel, Foreground, ReadVerdict, WriteVerdict, SettingsVerdict}
 use Rattle.rules.specs.declared.Outcome.{Outcome}
@@ -20,11 +20,12 @@ use Rattle.rules.specs.Output as rule
 use Rattle.rules.specs.Reads as reads
 use Rattle.rules.specs.Step.{step}
 use Rattle.rules.specs.Trace as trace
-use Rattle.rules.specs.Trace.{text, digits, decimal, hex, hexOrDash, signalWord, verdictWord, outcomeWord, wellFormed, malformed, decode, answered, line, cutLine, fullLine}
+use Rattle.rules.specs.Trace.{text, decimal, hex, hexOrDash, signalWord, verdictWord, outcomeWord, wellFormed, malformed, decode, answered, line}
 use Rattle.firstline.proofs.Laws.{line-count, bytes-count}
 use Rattle.asking.specs.Asking.{Asked}
 use Rattle.asking.proofs.Laws.{asked-of}
 use Rattle.trace.proofs.Laws.{handed-count}
+use Rattle.stream.proofs.Lengths.{digits-short}
 
 ---- What a call hands out
 
@@ -73,14 +74,6 @@ answered-short z s kind body (wellFormed a) b = omega (arith, handed-short z s (
 answered-short z s kind body malformed b = omega arith
 
 ---- What is printed for it
-
-digits-short : (k n : ℕ) → length (digits k n) ≤ k
-digits-short zero n = omega arith
-digits-short (suc k) n = by (ltb n 10) (digits-short k (n / 10))
-  where
-    by : (t : Bool) → length (digits k (n / 10)) ≤ k → length (cond t ((48 + n) ∷ []) (digits k (n / 10) ++ ((48 + n % 10) ∷ []))) ≤ suc k
-    by true le = omega arith
-    by false le = omega (arith, length-append (digits k (n / 10)) ((48 + n % 10) ∷ []))
 
 signal-short : (g : Signal) → length (signalWord g) ≤ 7
 signal-short Int = omega arith
@@ -141,9 +134,3 @@ reply-short i k r le =
 pub line-at-most : (z : Sizes) (s : State) (i kind : ℕ) (body : List ℕ) → length (line i kind (answered z s (decode kind body) .1)) ≤ 4123
 line-at-most z s i kind body =
     reply-short i kind (answered z s (decode kind body) .1) (answered-short z s kind body (decode kind body) (asked-of kind body))
-
-pub cut-at-most : (i : ℕ) → length (cutLine i) ≤ 4123
-cut-at-most i = omega (arith, length-append (decimal i) (text " cut\n"), digits-short 5 i)
-
-pub full-at-most : (i : ℕ) → length (fullLine i) ≤ 4123
-full-at-most i = omega (arith, length-append (decimal i) (text " full\n"), digits-short 5 i)

@@ -19,7 +19,7 @@ use Rattle.feeding.specs.declared.Fed.{Fed}
 use Rattle.stream.specs.Contract.{future, left, beginning}
 use Rattle.feeding.specs.Contract.{Feeds}
 use Rattle.feeding.specs.Pieces.{joined, Writes, feeds, used, finishes, WritesTheWhole, Passes}
-use Rattle.feeding.proofs.Lengths.{cut-at-most, full-at-most}
+use Rattle.stream.proofs.Lengths.{cut-at-most, full-at-most}
 use Rattle.gathering.proofs.Keeping.{pending-none}
 use Rattle.stream.proofs.Laws.{none-there, at-end}
 

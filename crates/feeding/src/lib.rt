@@ -23,60 +23,33 @@ fn advance(
     requires { ⌜ length (now kept) ≡ 517 ⌝ }
     ensures { λ r. ⌜ Feeds g (now (bytes .entry)) (now (marks .entry)) (now (out .entry)) (now (kept .entry)) (now (piece .entry)) (now (line .entry)) r (now (bytes .exit)) (now (marks .exit)) (now (out .exit)) (now (kept .exit)) (now (line .exit)) ⌝ }
 {
-    if g.done {
-        return Fed {
-            stream: g,
-            used: piece.len(),
-            length: 0,
-        };
-    }
-    if piece.len() == 0 {
-        return Fed {
-            stream: g,
-            used: 0,
-            length: 0,
-        };
-    }
+    let t = stream::take_in(g, kept, piece, line);
     let port = g.port;
-    if g.index >= 65535 { // 'At most 65,535 records are read'
-        let k = lastlines::put_full(line, g.index);
+    if t.complete {
+        let kind = gathering::kind_of(kept);
+        let to = gathering::end_of(kept);
+        let r = trace::record(port, bytes, marks, out, g.index, kind, &kept[4..to], line);
+        let after = r.port;
         return Fed {
             stream: Stream {
-                port: port,
-                index: g.index,
+                port: after,
+                index: g.index + 1,
                 have: 0,
-                done: true,
-            },
-            used: piece.len(),
-            length: k,
-        };
-    }
-    let have = gathering::begun(kept, g.have);
-    let used = gathering::gather(kept, have, piece);
-    let now = have + used;
-    if gathering::is_open(kept, now) {
-        return Fed {
-            stream: Stream {
-                port: port,
-                index: g.index,
-                have: now,
                 done: false,
             },
-            used: used,
-            length: 0,
+            used: t.used,
+            length: r.length,
         };
     }
-    let r = completing::complete(port, bytes, marks, out, g.index, kept, line);
-    let after = r.port;
     Fed {
         stream: Stream {
-            port: after,
-            index: g.index + 1,
-            have: 0,
-            done: false,
+            port: port,
+            index: g.index,
+            have: t.have,
+            done: t.done,
         },
-        used: used,
-        length: r.length,
+        used: t.used,
+        length: t.length,
     }
 }
 

@@ -16,6 +16,9 @@ abbrev pub kindOf : List ℕ → ℕ
 kindOf kept = two (getD kept 2 0) (getD kept 3 0)
 
 -- A body of more than 512 bytes is malformed whatever it holds, so 513 of them are enough.
+abbrev pub endOf : List ℕ → ℕ
+endOf kept = 4 + min (two (getD kept 0 0) (getD kept 1 0)) 513
+
 abbrev pub bodyOf : List ℕ → List ℕ
 bodyOf kept = take (min (two (getD kept 0 0) (getD kept 1 0)) 513) (drop 4 kept)
 

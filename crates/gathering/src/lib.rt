@@ -3,7 +3,7 @@ ghost use mathlib.Core.Path.{_≡_};
 ghost use mathlib.Core.Bool.{true, cond};
 ghost use Prim.Native.Nat.{_<_, _≤_};
 ghost use lib.ListN.{length, set};
-ghost use Rattle.gathering.specs.Contract.{isOpen, Gathers};
+ghost use Rattle.gathering.specs.Contract.{isOpen, kindOf, endOf, Gathers};
 
 // Is a record of which so many bytes have come not yet complete?
 pub fn is_open(kept: &[u8], have: usize) -> bool
@@ -46,4 +46,20 @@ pub fn gather(kept: &mut [u8], have: usize, piece: &[u8]) -> usize
         at += 1;
     }
     at
+}
+
+// the kind of a complete record
+pub fn kind_of(kept: &[u8]) -> usize
+    requires { ⌜ 4 ≤ length (now kept) ⌝ }
+    ensures { λ r. ⌜ r ≡ kindOf (now (kept .entry)) ⌝ }
+{
+    bodies::two(kept[2], kept[3])
+}
+
+// where its body ends, as far as it is kept
+pub fn end_of(kept: &[u8]) -> usize
+    requires { ⌜ 4 ≤ length (now kept) ⌝ }
+    ensures { λ r. ⌜ r ≡ endOf (now (kept .entry)) ⌝ }
+{
+    4 + queue::least(bodies::two(kept[0], kept[1]), 513)
 }

@@ -613,28 +613,3 @@ module _ (i : Input) (bs ms : List ℕ) (e : length bs ≡ length ms) where
         bytes = b .bytes;
         marks = b .marks;
       }
-
----- What is held after each call
-
-module _ (i r : Input) (bs ms bs′ ms′ : List ℕ) where
-  pub store-after : (canonical : Bool) (u : List Place) → Room i bs ms (length u) → Becomes i bs ms (keptIn canonical (get i bs ms) u) r bs′ ms′
-      → After (keptIn canonical (get i bs ms) u) bs ms r bs′ ms′
-  store-after canonical u h b =
-      let g : Ruled = get i bs ms in
-      get-grown i bs ms (keptIn canonical g u) (h .same) u r bs′ ms′ (kept-stored canonical g u)
-      (omega (arith, kept-used canonical g u, used-of i bs ms (h .same) (h .within), h .room)) b
-
-  pub end-after : (p : Place) → Room i bs ms 1 → Becomes i bs ms (endedIn (get i bs ms) p) r bs′ ms′
-      → After (endedIn (get i bs ms) p) bs ms r bs′ ms′
-  end-after p h b =
-      let g : Ruled = get i bs ms in
-      get-grown i bs ms (endedIn g p) (h .same) (p ∷ []) r bs′ ms′ (ended-stored g p)
-      (omega (arith, ended-used g p, used-of i bs ms (h .same) (h .within), h .room)) b
-
-module _ (i : Input) (bs ms : List ℕ) (e : length bs ≡ length ms) where
-  pub flush-after : After emptied bs ms (put emptied (i .queue .head % length bs)) bs ms
-  flush-after = get-fewer i bs ms emptied e 0 refl (put emptied (i .queue .head % length bs)) bs ms (flush-becomes i bs ms e)
-
-  pub cut-after : (at : ℕ) → Within i (length bs) → i .ready ≤ at → After (cutAt i bs ms at) bs ms (shortened at i) bs ms
-  cut-after at h le =
-      get-fewer i bs ms (cutAt i bs ms at) e at (cut-stored i bs ms e at le) (shortened at i) bs ms (cut-becomes i bs ms e at h le)

@@ -11,7 +11,6 @@ pub fn marks_end(p: Port, bytes: &mut [u8], marks: &mut [u8], out: &mut [u8]) ->
     requires { ⌜ Ready p (now bytes) (now marks) (now out) ⌝ }
     ensures { λ r. ⌜ Becomes p (now (bytes .entry)) (now (marks .entry)) (now (out .entry)) (fit.storesEnd (sizesOf p (length (now (bytes .entry))) (length (now (out .entry)))) (state p (now (bytes .entry)) (now (marks .entry)) (now (out .entry))) endOfFile []) r (now (bytes .exit)) (now (marks .exit)) (now (out .exit)) ⌝ }
 {
-    let x = p.settings;
     let i = p.input;
     let n = bytes.len();
     if fitting::end_fits(i, n) {

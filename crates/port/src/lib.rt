@@ -1,4 +1,4 @@
-// A port of document 01: its state, flushing its output, an answer. A port is scalars by value; its three queues are lent as
+// A port of document 01: its state, a fresh one, flushing its output, an answer. A port is scalars by value; its three queues are lent as
 // slices of any length (input bytes, input marks, output), made by whoever owns the port.
 ghost use mathlib.Core.Path.{_≡_};
 ghost use Rattle.port.specs.State.{withOutput};
@@ -33,6 +33,24 @@ impl Port {
     pub const INPUT: usize = 1024;
 
     pub const OUTPUT: usize = 2048;
+
+    // 'A fresh port holds no byte, column 0, no foreground group, default settings.'
+    pub fn fresh() -> Port
+        ensures { λ r. ⌜ r ≡ promise.fresh ⌝ }
+    {
+        let settings = settings::defaults();
+        let input = Input::fresh();
+        let output = Output::fresh();
+        Port {
+            settings: settings,
+            line: Port::LINE,
+            input: input,
+            output: output,
+            foreground: Group::Nobody,
+            hung: false,
+            waiting: Waiting::Idle,
+        }
+    }
 
     pub fn with_output(self, output: Output) -> Port
         ensures { λ r. ⌜ r ≡ withOutput self output ⌝ }

@@ -1,3 +1,4 @@
 pub mod Bodies
 pub mod Decoding
+pub mod Places
 pub mod Promises

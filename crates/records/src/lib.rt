@@ -2,18 +2,41 @@
 ghost use mathlib.Core.Path.{_≡_};
 ghost use mathlib.Core.List.{[]};
 ghost use mathlib.Core.Bool.{cond};
-ghost use lib.ListN.{length};
+ghost use Prim.Native.Nat.{ℕ, _<_};
+ghost use lib.ListN.{length, getD};
 ghost use lib.Dec.{eqb};
-ghost use Rattle.rules.specs.Trace.{asks, malformed, settingsRecord, readRecord, writeRecord, transmitRecord, flushRecord, foregroundRecord};
+ghost use Rattle.rules.specs.Settings.{settingsOf};
+ghost use Rattle.rules.specs.Trace.{bitOf, asks, malformed, settingsRecord, readRecord, writeRecord, transmitRecord, flushRecord, foregroundRecord};
 ghost use Rattle.records.specs.Records.{told, Decodes};
 use rules::Call;
 use rules::Event;
+use rules::Settings;
 
 // What a record asks for, and how many bytes are lent to the call: for a write the body itself, for a read and a
 // transmit so many zeros.
 pub enum Decoded {
     WellFormed { call: Call, lent: usize },
     Malformed,
+}
+
+// The 15 values in the table's order, each in its default's place.
+fn in_places(values: &[u8]) -> [u8; 15]
+    ensures { λ r. ⌜ ((i : ℕ) → i < 15 → getD r i 0 ≡ getD (now (values .entry)) i 0) ⌝ }
+{
+    let mut v = settings::DEFAULTS;
+    let mut i = 0;
+    while i < 15 {
+        v[i] = bodies::value(values, i);
+        i += 1;
+    }
+    v
+}
+
+// The settings that a record's 32 flags and 15 values mean.
+fn recorded(flags: u32, values: &[u8]) -> Settings
+    ensures { λ r. ⌜ r ≡ settingsOf (bitOf flags) (now (values .entry)) ⌝ }
+{
+    flags::settings_of(flags, in_places(values))
 }
 
 // '1 settings (4 flag bytes, 15 values)'
@@ -24,7 +47,7 @@ fn settings_record(body: &[u8]) -> Decoded
         return Decoded::Malformed;
     }
     let flags = bodies::number_of(body);
-    let x = settings::recorded(flags, &body[4..]);
+    let x = recorded(flags, &body[4..]);
     Decoded::WellFormed {
         call: Call::Set(x),
         lent: 0,

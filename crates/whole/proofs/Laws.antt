@@ -92,10 +92,6 @@ module _ (w : ℕ) (dst : List ℕ) (le : w ≤ length dst) where
   laid-back m =
       ap (λ (y : List ℕ). take w dst ++ y) (ap (λ (y : List ℕ). m ++ y) (none-behind (length dst - w) (drop w dst) (omega (arith, length-drop w dst))) ∙ append-nil m)
 
-  -- how much is written fits
-  pub written-fits : (t : List ℕ) (k : ℕ) (m : List ℕ) → Prints (take (length dst - w) (drop w dst)) t k m → w + k ≤ length dst
-  written-fits t k m h = omega (arith, from-place t k m h .count, length-drop w dst)
-
 ---- whole
 
 -- while the input is fed: a text is written into the buffer that held d₀, as much of it as it holds; the rest is what is printed from here on

@@ -11,7 +11,7 @@ end-fits-requires c κs = search needs
 
 end-of-file-requires : tie.Need-end-of-file-requires
 end-of-file-requires c κs =
-    let start = c .before .before .before .before .before .before .before .before .before in
+    let start = c .before .before .before .before .before .before .before .before in
     let p = start .args .p in
     let bs = start .args .bytes .now in
     let ms = start .args .marks .now in
@@ -29,7 +29,7 @@ same-length-2 c = search needs
 
 returns : tie.Need-returns
 returns c =
-    let start = c .before .before .before .before .before .before .before .before .before .before .before .before .before .before .before .before in
+    let start = c .before .before .before .before .before .before .before .before .before .before .before .before .before .before .before in
     let p = start .args .p in
     let bs = start .args .bytes .now in
     let ms = start .args .marks .now in
@@ -45,7 +45,7 @@ same-length-3 c = search needs
 
 returns-2 : tie.Need-returns-2
 returns-2 c =
-    let start = c .before .before .before .before .before .before .before .before .before .before .before in
+    let start = c .before .before .before .before .before .before .before .before .before .before in
     let p = start .args .p in
     let bs = start .args .bytes .now in
     let ms = start .args .marks .now in

@@ -7,11 +7,11 @@ use borrow.Author.Needs.{needs}
 use Rattle.stream.proofs.Stream.start.Statement.{statement}
 use Rattle.stream.proofs.Stream.start.Tie as tie
 
-fresh-port-requires : tie.Need-fresh-port-requires
-fresh-port-requires c κs = search needs
+fresh-requires : tie.Need-fresh-requires
+fresh-requires c κs = search needs
 
 returns : tie.Need-returns
-returns c = ap {B = Stream} (λ (p : Port). record { port = p; index = 0; have = 0; done = false }) (c .fresh-port .ensures)
+returns c = ap {B = Stream} (λ (p : Port). record { port = p; index = 0; have = 0; done = false }) (c .fresh .ensures)
 
 pub start-spec : {M : Type 1} → statement M
-start-spec = tie.close (tie.spec fresh-port-requires returns)
+start-spec = tie.close (tie.spec fresh-requires returns)

@@ -1,13 +1,13 @@
--- `settings::in_places` meets its contract: below place i the copy has the values. Assumes nothing.
+-- `records::in_places` meets its contract: below place i the copy has the values. Assumes nothing.
 use Prim.Native.Nat.{ℕ, _≤_, _<_, _-_}
 use mathlib.Core.Path.{_≡_}
 use native.Mathlib.Omega.{arith}
 use borrow.Author.Needs.{needs}
 use denote.Ref.{now}
 use lib.ListN.{length, getD, length-set}
-use Rattle.settings.proofs.Places.{copied-next}
-use Rattle.settings.proofs.in_places.Statement.{statement}
-use Rattle.settings.proofs.in_places.Tie as tie
+use Rattle.records.proofs.Places.{copied-next}
+use Rattle.records.proofs.in_places.Statement.{statement}
+use Rattle.records.proofs.in_places.Tie as tie
 
 abbrev Inv-loop : tie.InvT-loop
 Inv-loop values v₀ i₀ v i = (i ≤ 15) × (length v ≡ 15) × ((k : ℕ) → k < i → getD v k 0 ≡ getD values k 0)

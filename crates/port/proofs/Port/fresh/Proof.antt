@@ -1,10 +1,10 @@
--- `fresh::fresh_port` meets its contract. Assumes nothing.
+-- `Port::fresh` meets its contract. Assumes nothing.
 use Rattle.rules.specs.declared.Waiting.the-variants.{Idle}
 use Rattle.rules.specs.declared.Group.the-variants.{Nobody}
 use mathlib.Core.Bool.{false}
 use borrow.Author.Needs.{needs}
-use Rattle.fresh.proofs.fresh_port.Statement.{statement}
-use Rattle.fresh.proofs.fresh_port.Tie as tie
+use Rattle.port.proofs.Port.fresh.Statement.{statement}
+use Rattle.port.proofs.Port.fresh.Tie as tie
 
 defaults-requires : tie.Need-defaults-requires
 defaults-requires c κs = search needs
@@ -27,5 +27,5 @@ returns c =
       waiting = Idle;
     }
 
-pub fresh-port-spec : {M : Type 1} → statement M
-fresh-port-spec = tie.close (tie.spec defaults-requires fresh-requires fresh-requires-2 returns)
+pub fresh-spec : {M : Type 1} → statement M
+fresh-spec = tie.close (tie.spec defaults-requires fresh-requires fresh-requires-2 returns)

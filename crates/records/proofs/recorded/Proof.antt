@@ -1,11 +1,11 @@
--- `settings::recorded` meets its contract: settings take 15 values (Places, `same-settings`). Assumes nothing.
+-- `records::recorded` meets its contract: settings take 15 values (Places, `same-settings`). Assumes nothing.
 use mathlib.Core.Path.{_∙_}
 use borrow.Author.Needs.{needs}
 use denote.Ref.{now}
 use Rattle.rules.specs.Trace.{bitOf}
-use Rattle.settings.proofs.Places.{same-settings}
-use Rattle.settings.proofs.recorded.Statement.{statement}
-use Rattle.settings.proofs.recorded.Tie as tie
+use Rattle.records.proofs.Places.{same-settings}
+use Rattle.records.proofs.recorded.Statement.{statement}
+use Rattle.records.proofs.recorded.Tie as tie
 
 in-places-requires : tie.Need-in-places-requires
 in-places-requires c κs = search needs
