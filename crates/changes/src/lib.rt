@@ -69,7 +69,7 @@ pub fn set(p: Port, bytes: &mut [u8], marks: &mut [u8], x: Settings) -> Answered
         return port::says(p, Outcome::Refused(Refusal::ReadWaits), 0);
     }
     if accepting::acceptable(x) {
-        let n = queue::least(bytes.len(), marks.len());
+        let n = numbers::least(bytes.len(), marks.len());
         let old = p.settings;
         let i = p.input;
         let o = p.output;

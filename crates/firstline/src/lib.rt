@@ -17,7 +17,7 @@ pub fn first_line(i: Input, marks: &[u8], n: usize) -> Line
 {
     let q = i.queue;
     let ready = i.ready;
-    let most = queue::least(n, ready);
+    let most = numbers::least(n, ready);
     let mut k = 0;
     while k < most {
         let m = q.at(marks, k);

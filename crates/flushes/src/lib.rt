@@ -11,7 +11,7 @@ use rules::Refusal;
 pub fn flush(p: Port, bytes: &[u8], marks: &[u8], out: &[u8], choice: u8) -> Answered
     ensures { λ r. ⌜ Asks p (now (bytes .entry)) (now (marks .entry)) (now (out .entry)) (stepOf p (now (bytes .entry)) (now (marks .entry)) (now (out .entry)) (Call.Flush choice) []) r ⌝ }
 {
-    let n = queue::least(bytes.len(), marks.len());
+    let n = numbers::least(bytes.len(), marks.len());
     let q = calling::in_range(p, n, out.len());
     if choice == 1 {
         return port::says(flushing::flush_input(q, n, out), Outcome::Ok, 0);

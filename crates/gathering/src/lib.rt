@@ -61,5 +61,5 @@ pub fn end_of(kept: &[u8]) -> usize
     requires { ⌜ 4 ≤ length (now kept) ⌝ }
     ensures { λ r. ⌜ r ≡ endOf (now (kept .entry)) ⌝ }
 {
-    4 + queue::least(bodies::two(kept[0], kept[1]), 513)
+    4 + numbers::least(bodies::two(kept[0], kept[1]), 513)
 }

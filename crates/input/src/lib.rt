@@ -40,7 +40,7 @@ impl Input {
     {
         let q = self.queue;
         let queue = q.fit(n);
-        let ready = queue::least(self.ready, queue.len);
+        let ready = numbers::least(self.ready, queue.len);
         Input {
             queue: queue,
             ready: ready,
@@ -79,7 +79,7 @@ impl Input {
         ensures { λ r. ⌜ r ≡ shortened at self ⌝ }
     {
         let q = self.queue;
-        let gone = queue::less(q.len, at);
+        let gone = numbers::less(q.len, at);
         let queue = q.drop_newest(n, gone);
         Input {
             queue: queue,

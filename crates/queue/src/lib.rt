@@ -11,25 +11,6 @@ pub struct Queue {
     pub len: usize,
 }
 
-pub fn least(a: usize, b: usize) -> usize
-    ensures { λ r. ⌜ r ≡ min a b ⌝ }
-{
-    if a < b {
-        return a;
-    }
-    b
-}
-
-// a − b, not below 0
-pub fn less(a: usize, b: usize) -> usize
-    ensures { λ r. ⌜ r ≡ a - b ⌝ }
-{
-    if a < b {
-        return 0;
-    }
-    a - b
-}
-
 // x mod n with no division, for x below 2 n
 fn wrap(x: usize, n: usize) -> usize
     requires { ⌜ x < n + n ⌝ }
@@ -66,7 +47,7 @@ impl Queue {
         ensures { λ r. ⌜ r ≡ fitted n self ⌝ }
     {
         let head = home(self.head, n);
-        let len = least(self.len, n);
+        let len = numbers::least(self.len, n);
         Queue {
             head: head,
             len: len,
@@ -99,7 +80,7 @@ impl Queue {
         let n = ring.len();
         let q = self.fit(n);
         let len = q.len;
-        let gone = least(k, len);
+        let gone = numbers::least(k, len);
         let head = home(q.head + gone, n);
         Queue {
             head: head,
@@ -112,7 +93,7 @@ impl Queue {
         ensures { λ r. ⌜ r ≡ record { head = self .head % n; len = min (self .len) n - k } ⌝ }
     {
         let q = self.fit(n);
-        let len = less(q.len, k);
+        let len = numbers::less(q.len, k);
         Queue {
             head: q.head,
             len: len,

@@ -43,6 +43,6 @@ pub fn read_bytes(i: Input, bytes: &[u8], dst: &mut [u8]) -> Taken
     requires { ⌜ Within i (length (now bytes)) ⌝ }
     ensures { λ r. ⌜ ReadsBytes i (now (bytes .entry)) (now (dst .entry)) r (now (dst .exit)) ⌝ }
 {
-    let k = queue::least(dst.len(), i.ready);
+    let k = numbers::least(dst.len(), i.ready);
     give(i, bytes, dst, k, k)
 }

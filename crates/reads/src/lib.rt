@@ -42,7 +42,7 @@ fn ordered(
 pub fn read(p: Port, bytes: &[u8], marks: &[u8], dst: &mut [u8], nonblocking: bool) -> Answered
     ensures { λ r. ⌜ Reads p (now (bytes .entry)) (now (marks .entry)) (now (dst .entry)) nonblocking r (now (dst .exit)) ⌝ }
 {
-    let n = queue::least(bytes.len(), marks.len());
+    let n = numbers::least(bytes.len(), marks.len());
     let i = p.input;
     let f = i.fit(n);
     ordered(p, f, &bytes[..n], &marks[..n], dst, nonblocking)

@@ -26,7 +26,7 @@ fn bytes_in(e: Event) -> usize
 pub fn receive(p: Port, bytes: &mut [u8], marks: &mut [u8], out: &mut [u8], e: Event) -> Answered
     ensures { λ r. ⌜ Calls p (now (bytes .entry)) (now (marks .entry)) (now (out .entry)) (stepOf p (now (bytes .entry)) (now (marks .entry)) (now (out .entry)) (Call.Receive e) []) r (now (bytes .exit)) (now (marks .exit)) (now (out .exit)) ⌝ }
 {
-    let n = queue::least(bytes.len(), marks.len());
+    let n = numbers::least(bytes.len(), marks.len());
     let q = calling::in_range(p, n, out.len());
     let r = received::received(q, &mut bytes[..n], &mut marks[..n], out, e);
     let port = r.port;

@@ -32,7 +32,7 @@ pub fn take(q: Queue, ring: &[u8], dst: &mut [u8]) -> Taken
     ensures { λ r. ⌜ Takes q (now (ring .entry)) (now (dst .entry)) r (now (dst .exit)) ⌝ }
 {
     let f = q.fit(ring.len());
-    let k = queue::least(f.len, dst.len());
+    let k = numbers::least(f.len, dst.len());
     let mut i = 0;
     while i < k {
         dst[i] = q.at(ring, i);

@@ -1,17 +1,7 @@
 // Document 01, 'Reads': when what is stored is enough for a read.
 ghost use mathlib.Core.Path.{_≡_};
-ghost use Prim.Native.Nat.{min};
 ghost use Rattle.rules.specs.Reads as read;
 use rules::Settings;
-
-fn least(a: usize, b: usize) -> usize
-    ensures { λ r. ⌜ r ≡ min a b ⌝ }
-{
-    if a < b {
-        return a;
-    }
-    b
-}
 
 fn wide(b: u8) -> usize
     ensures { λ r. ⌜ r ≡ b ⌝ }
@@ -27,5 +17,5 @@ pub fn enough(x: Settings, n: usize, stored: usize) -> bool
     if x.min == 0 {
         return x.time == 0 || stored > 0;
     }
-    least(wide(x.min), n) <= stored
+    numbers::least(wide(x.min), n) <= stored
 }

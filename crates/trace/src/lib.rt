@@ -28,8 +28,8 @@ pub struct Recorded {
 fn load(lent: &mut [u8], body: &[u8], n: usize)
     ensures { λ _. ⌜ now (lent .exit) ≡ take (min n (min (length (now (body .entry))) (length (now (lent .entry))))) (now (body .entry)) ++ drop (min n (min (length (now (body .entry))) (length (now (lent .entry))))) (now (lent .entry)) ⌝ }
 {
-    let most = queue::least(body.len(), lent.len());
-    let k = queue::least(n, most);
+    let most = numbers::least(body.len(), lent.len());
+    let k = numbers::least(n, most);
     let mut i = 0;
     while i < k {
         lent[i] = body[i];

@@ -1,5 +1,5 @@
 // The trace program: records from standard input, a line each to standard output as soon as the record is complete. What is
-// written is decided in `stream`.
+// written is decided in `feeding` and `stream`.
 ghost use mathlib.Core.Path.{_≡_};
 ghost use mathlib.Core.Bool.{true};
 ghost use Rattle.feeding.specs.Pieces.{Passes};
