@@ -8,7 +8,7 @@ use Rattle.rules.specs.Refusals.{Reply, lentAfter}
 use Rattle.rules.specs.Settings.{fresh}
 use Rattle.rules.specs.Step.{Asked, stepOf}
 use Rattle.port.specs.State.{sizes, get}
-use Rattle.port.specs.Contract as port
+use Rattle.port.specs.Sending as port
 use Rattle.port.specs.declared.Port.{Port}
 use Rattle.port.proofs.Fresh.{fresh-state}
 use Rattle.discipline.specs.Demand2.{Seen, Makes, shows, Demand2}

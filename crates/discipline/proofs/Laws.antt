@@ -6,7 +6,8 @@ use Prim.Native.Nat.{ℕ}
 use lib.ListN.{length}
 use lib.Dec.{eqb, ltb}
 use Rattle.rules.specs.declared.Call.{Call}
-use Rattle.rules.specs.declared.Call.the-variants.{Set, Receive, Read, Write, Transmit, Flush, Cancel, Foreground, ReadVerdict, WriteVerdict, SettingsVerdict}
+use Rattle.rules.specs.declared.Call.the-variants.{Set, Receive, Read, Write, Transmit, Flush, Cancel, Foreground, ReadVerdict, WriteVerdict}
+use Rattle.rules.specs.declared.Call.the-variants.{SettingsVerdict}
 use Rattle.rules.specs.declared.Event.{Event}
 use Rattle.rules.specs.declared.Process.{Process}
 use Rattle.rules.specs.declared.Settings.{Settings}
@@ -19,21 +20,18 @@ use Rattle.rules.specs.Step.{setOn, aReadWaits}
 use Rattle.rules.specs.Settings.{acceptable}
 use Rattle.rules.specs.Verdicts as verdict
 use Rattle.port.specs.State.{places, sizes, get}
-use Rattle.port.specs.Contract.{Outcomes, refused, written, transmitted, result}
+use Rattle.port.specs.Sending.{Outcomes, refused, written, transmitted, result}
 use Rattle.port.specs.declared.Port.{Port}
 use Rattle.port.specs.declared.Answered.{Answered}
-use Rattle.writing.proofs.Laws.{size-written}
-use Rattle.writing.proofs.Promises.{for-any-input, state-written}
-use Rattle.transmitting.proofs.Promises.{transmits-for-any-input, state-transmitted}
-use Rattle.calling.specs.Contract.{stepOf, Calls, Asks, grouped, cancelled, answered}
-use Rattle.receiving.proofs.Promises.{received-now}
-use Rattle.calls.proofs.Promises.{grouped-now, cancelled-now}
-use Rattle.flushes.proofs.Promises.{flushed-now}
-use Rattle.judging.proofs.Promises.{read-judged, write-judged, settings-judged}
-use Rattle.changes.specs.Contract.{Sets}
-use Rattle.changes.proofs.Promises.{set-now}
-use Rattle.reads.specs.Contract.{Reads}
-use Rattle.reads.proofs.Promises.{read-now}
+use Rattle.discipline.proofs.sending.Laws.{size-written}
+use Rattle.discipline.proofs.sending.Promises.{for-any-input, state-written, transmits-for-any-input, state-transmitted}
+use Rattle.port.specs.Calls.{stepOf, Calls, Asks, grouped, cancelled, answered}
+use Rattle.discipline.proofs.events.Promises.{received-now, flushed-now}
+use Rattle.discipline.proofs.verdicts.Promises.{grouped-now, read-judged, write-judged, settings-judged}
+use Rattle.discipline.specs.changes.Contract.{Sets}
+use Rattle.discipline.proofs.changes.Promises.{set-now}
+use Rattle.discipline.specs.reads.Contract.{Reads}
+use Rattle.discipline.proofs.reads.Promises.{read-now, cancelled-now}
 use Rattle.discipline.specs.Contract.{Held, Stepped, Steps}
 
 -- in the arm of one call
@@ -84,7 +82,8 @@ module _ (p : Port) (bs ms os lent : List ℕ) (r : Answered) where
   set-silent x false true s = refl
   set-silent x false false s = refl
 
-  pub steps-set : (x : Settings) (bs′ ms′ : List ℕ) → Sets p bs ms x (stepOf p bs ms [] (Set x) []) r bs′ ms′ → Steps p bs ms os (Set x) lent r bs′ ms′ os lent
+  pub steps-set : (x : Settings) (bs′ ms′ : List ℕ) → Sets p bs ms x (stepOf p bs ms [] (Set x) []) r bs′ ms′
+      → Steps p bs ms os (Set x) lent r bs′ ms′ os lent
   steps-set x bs′ ms′ e =
       let n = set-now p bs ms os x r bs′ ms′ e in
       record {

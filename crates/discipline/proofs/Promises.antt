@@ -1,14 +1,15 @@
 -- No second answer, port, slice or buffer meets the promise of `step`. Assumes nothing.
 use mathlib.Core.Path.{_≡_, sym, _∙_}
 use Rattle.rules.specs.declared.Call.{Call}
-use Rattle.rules.specs.declared.Call.the-variants.{Set, Receive, Read, Write, Transmit, Flush, Cancel, Foreground, ReadVerdict, WriteVerdict, SettingsVerdict}
-use Rattle.port.specs.Contract.{written, transmitted}
+use Rattle.rules.specs.declared.Call.the-variants.{Set, Receive, Read, Write, Transmit, Flush, Cancel, Foreground, ReadVerdict, WriteVerdict}
+use Rattle.rules.specs.declared.Call.the-variants.{SettingsVerdict}
+use Rattle.port.specs.Sending.{written, transmitted}
 use Rattle.port.specs.declared.Port.{Port}
 use Rattle.port.specs.declared.Answered.{Answered}
 use Rattle.port.proofs.Results.{one-answer}
-use Rattle.calling.proofs.Promises.{one-call, one-asked}
-use Rattle.changes.proofs.Promises.{one-set}
-use Rattle.reads.proofs.Promises.{one-taken}
+use Rattle.port.proofs.Promises.{one-call, one-asked}
+use Rattle.discipline.proofs.changes.Promises.{one-set}
+use Rattle.discipline.proofs.reads.Promises.{one-taken}
 use Rattle.discipline.specs.Contract.{Held, Exact, Stepped, held}
 
 held-is : (k j : Held) → k .bytes ≡ j .bytes → k .marks ≡ j .marks → k .out ≡ j .out → k .lent ≡ j .lent → k ≡ j

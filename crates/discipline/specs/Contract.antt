@@ -3,14 +3,15 @@ use Prim.Native.Nat.{ℕ}
 use mathlib.Core.Path.{_≡_}
 use mathlib.Core.List.{List, []}
 use Rattle.rules.specs.declared.Call.{Call}
-use Rattle.rules.specs.declared.Call.the-variants.{Set, Receive, Read, Write, Transmit, Flush, Cancel, Foreground, ReadVerdict, WriteVerdict, SettingsVerdict}
+use Rattle.rules.specs.declared.Call.the-variants.{Set, Receive, Read, Write, Transmit, Flush, Cancel, Foreground, ReadVerdict, WriteVerdict}
+use Rattle.rules.specs.declared.Call.the-variants.{SettingsVerdict}
 use Rattle.rules.specs.Refusals.{lentAfter}
-use Rattle.port.specs.Contract.{result, written, transmitted}
+use Rattle.port.specs.Sending.{result, written, transmitted}
 use Rattle.port.specs.declared.Port.{Port}
 use Rattle.port.specs.declared.Answered.{Answered}
-use Rattle.calling.specs.Contract.{stepOf, Calls, Asks, grouped, cancelled, answered, Now}
-use Rattle.changes.specs.Contract.{Sets}
-use Rattle.reads.specs.Contract.{Reads}
+use Rattle.port.specs.Calls.{stepOf, Calls, Asks, grouped, cancelled, answered, Now}
+use Rattle.discipline.specs.changes.Contract.{Sets}
+use Rattle.discipline.specs.reads.Contract.{Reads}
 
 -- the three slices (input bytes, input marks, output) and the lent buffer
 pub record Held : Type 0 where

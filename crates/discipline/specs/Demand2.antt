@@ -8,7 +8,7 @@ use Rattle.rules.specs.Sizes.{Sizes, State, base}
 use Rattle.rules.specs.Refusals.{Reply, lentAfter}
 use Rattle.rules.specs.Settings.{fresh}
 use Rattle.rules.specs.Step.{Asked, run}
-use Rattle.port.specs.Contract as port
+use Rattle.port.specs.Sending as port
 use Rattle.port.specs.declared.Port.{Port}
 use Rattle.discipline.specs.Contract.{Stepped, held}
 use Rattle.port.specs.declared.Answered.{Answered}

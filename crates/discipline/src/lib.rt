@@ -1,4 +1,11 @@
 // The line discipline in one function: any call of document 01 on a port, its three slices and a lent buffer.
+pub mod changes;
+pub mod events;
+pub mod reads;
+pub mod sending;
+pub mod verdicts;
+
+ghost use Rattle.rules.specs.Lent.{before, after};
 ghost use Rattle.discipline.specs.Contract.{Steps};
 use port::Answered;
 use port::Port;
@@ -14,19 +21,19 @@ pub fn step(
     call: Call,
     lent: &mut [u8],
 ) -> Answered
-    ensures { λ r. ⌜ Steps p (now (bytes .entry)) (now (marks .entry)) (now (out .entry)) call (now (lent .entry)) r (now (bytes .exit)) (now (marks .exit)) (now (out .exit)) (now (lent .exit)) ⌝ }
+    ensures { λ r. ⌜ Steps p (before bytes) (before marks) (before out) call (before lent) r (after bytes) (after marks) (after out) (after lent) ⌝ }
 {
     match call {
         Call::Set(x) => changes::set(p, bytes, marks, x),
-        Call::Receive(e) => receiving::receive(p, bytes, marks, out, e),
+        Call::Receive(e) => events::receive(p, bytes, marks, out, e),
         Call::Read { nonblocking } => reads::read(p, bytes, marks, lent, nonblocking),
-        Call::Write => writing::write(p, out, lent),
-        Call::Transmit => transmitting::transmit(p, out, lent),
-        Call::Flush(choice) => flushes::flush(p, bytes, marks, out, choice),
-        Call::Cancel => calls::cancel(p),
-        Call::Foreground { group, orphaned } => calls::foreground(p, group, orphaned),
-        Call::ReadVerdict(who) => judging::read_verdict(p, who),
-        Call::WriteVerdict(who) => judging::write_verdict(p, who),
-        Call::SettingsVerdict(who) => judging::settings_verdict(p, who),
+        Call::Write => sending::write(p, out, lent),
+        Call::Transmit => sending::transmit(p, out, lent),
+        Call::Flush(choice) => events::flush(p, bytes, marks, out, choice),
+        Call::Cancel => reads::cancel(p),
+        Call::Foreground { group, orphaned } => verdicts::foreground(p, group, orphaned),
+        Call::ReadVerdict(who) => verdicts::read_verdict(p, who),
+        Call::WriteVerdict(who) => verdicts::write_verdict(p, who),
+        Call::SettingsVerdict(who) => verdicts::settings_verdict(p, who),
     }
 }

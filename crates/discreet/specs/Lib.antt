@@ -1,1 +1,2 @@
 pub mod Statement
+pub mod alike

@@ -1,23 +1,23 @@
 -- What is shown, by its cases. Assumes nothing.
 use mathlib.Core.Path.{_≡_, refl, sym, ap, subst, _∙_}
-use mathlib.Core.Bool.{Bool, true, false, cond, and-false}
+use mathlib.Core.Bool.{Bool, true, false, cond, and-false, _&&_}
 use mathlib.Core.List.{List, [], _∷_, _++_, append-assoc}
 use Prim.Native.Nat.{ℕ, _+_, _<_, _≤_}
 use native.Mathlib.Omega.{arith}
 use lib.ListN.{length}
-use lib.Dec.{leb}
-use borrow.Author.Tests.{ne-eqb, le-leb, lt-leb}
+use lib.Dec.{leb, eqb}
+use borrow.Author.Tests.{ne-eqb, le-leb, lt-leb, eq-eqb}
 use Rattle.rules.specs.declared.Settings.{Settings}
 use Rattle.rules.specs.Sizes.{Output as Ruled}
 use Rattle.rules.specs.Output.{queued, queuedWhole}
-use Rattle.rules.specs.Echo.{visible, echoOf}
-use Rattle.rules.proofs.OutputLaws.{queued-none}
+use Rattle.rules.specs.Echo.{visible, echoOf, storedEcho, rubout}
+use Rattle.rules.proofs.OutputLaws.{queued-none, append-nil}
 use Rattle.output.specs.Contract.{inRange, get, Becomes}
-use Rattle.columns.specs.Contract.{Measures, Extends}
-use Rattle.columns.specs.declared.Measure.{Measure}
+use Rattle.output.specs.columns.Contract.{Measures, Extends}
+use Rattle.output.specs.declared.columns.Measure.{Measure}
 use Rattle.output.specs.declared.Output.{Output}
 use Rattle.output.proofs.Laws.{becomes, stays}
-use Rattle.echo.specs.Contract.{echoed, Echoes, ExtendsBy, bytesOf}
+use Rattle.echo.specs.Contract.{echoed, Echoes, ExtendsBy, bytesOf, erasedEcho, killedEcho}
 use Rattle.echo.specs.declared.Seen.{Seen}
 
 pub visible-caret : (x : Settings) (b : ℕ) → x .echoctl ≡ true → (b ≡ 127 → ⊥) → (b ≡ 9 → ⊥) → (b ≡ 10 → ⊥) → b < 32
@@ -72,3 +72,50 @@ module _ (x : Settings) (b : ℕ) where
 
   pub echo-clear : x .echo ≡ false → [] ≡ echoOf x b
   echo-clear e = rw e
+
+---- The cases of each echo. Assumes nothing
+
+stored-plain : (x : Settings) (b : ℕ) (t : Bool) → x .echo ≡ false → t ≡ (eqb b 10 && x .echonl && x .icanon) → cond t (10 ∷ []) [] ≡ storedEcho x b
+stored-plain x b t e f = rw (e, f)
+
+module _ (x : Settings) (b : ℕ) where
+  pub stored-set : x .echo ≡ true → visible x b ≡ storedEcho x b
+  stored-set e = rw e
+
+  pub stored-newline : (t : Bool) → x .echo ≡ false → t ≡ (eqb b 10 && x .echonl && x .icanon) → t ≡ true → 10 ∷ [] ≡ storedEcho x b
+  stored-newline t e f g = ap (λ (k : Bool). cond k (10 ∷ []) []) (sym g) ∙ stored-plain x b t e f
+
+  pub stored-clear : (t : Bool) → x .echo ≡ false → t ≡ (eqb b 10 && x .echonl && x .icanon) → t ≡ false → [] ≡ storedEcho x b
+  stored-clear t e f g = ap (λ (k : Bool). cond k (10 ∷ []) []) (sym g) ∙ stored-plain x b t e f
+
+  pub erased-rubs : (n : ℕ) → x .echo ≡ true → x .echoe ≡ true → rubout n ≡ erasedEcho x b n
+  erased-rubs n e f = rw (e, f)
+
+  pub erased-own : (n : ℕ) → x .echo ≡ true → x .echoe ≡ false → visible x b ≡ erasedEcho x b n
+  erased-own n e f = rw (e, f)
+
+  pub erased-clear : (n : ℕ) → x .echo ≡ false → [] ≡ erasedEcho x b n
+  erased-clear n e = rw e
+
+  pub killed-rubs : (n : ℕ) → x .echo ≡ true → x .echoke ≡ true → rubout n ≡ killedEcho x b n
+  killed-rubs n e f = rw (e, f)
+
+  pub killed-line : (n : ℕ) → x .echo ≡ true → x .echoke ≡ false → x .echok ≡ true → visible x b ++ (10 ∷ []) ≡ killedEcho x b n
+  killed-line n e f g = rw (e, f, g)
+
+  pub killed-own : (n : ℕ) → x .echo ≡ true → x .echoke ≡ false → x .echok ≡ false → visible x b ≡ killedEcho x b n
+  killed-own n e f g = rw (e, f, g) (sym (append-nil (visible x b)))
+
+  pub killed-clear : (n : ℕ) → x .echo ≡ false → [] ≡ killedEcho x b n
+  killed-clear n e = rw e
+
+---- A newline that is shown with ECHO clear
+
+pub all-three : (x : Settings) (b : ℕ) → b ≡ 10 → x .echonl ≡ true → x .icanon ≡ (eqb b 10 && x .echonl && x .icanon)
+all-three x b e f = rw (eq-eqb b 10 e, f)
+
+pub not-second : (x : Settings) (b : ℕ) → b ≡ 10 → x .echonl ≡ false → false ≡ (eqb b 10 && x .echonl && x .icanon)
+not-second x b e f = rw (eq-eqb b 10 e, f)
+
+pub not-first : (x : Settings) (b : ℕ) → (b ≡ 10 → ⊥) → false ≡ (eqb b 10 && x .echonl && x .icanon)
+not-first x b e = rw (ne-eqb b 10 e)

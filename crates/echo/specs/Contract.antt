@@ -7,10 +7,11 @@ use Rattle.rules.specs.declared.Settings.{Settings}
 use Rattle.rules.specs.Sizes.{Output as Ruled}
 use Rattle.rules.specs.Output.{processed, queuedWhole}
 use Rattle.output.specs.Contract.{get, Becomes}
-use Rattle.columns.specs.Contract.{Measures}
-use Rattle.columns.specs.declared.Measure.{Measure}
+use Rattle.output.specs.columns.Contract.{Measures}
+use Rattle.output.specs.declared.columns.Measure.{Measure}
 use Rattle.output.specs.declared.Output.{Output}
 use Rattle.echo.specs.declared.Seen.{Seen}
+use Rattle.rules.specs.Echo.{visible, rubout}
 
 -- a byte as itself, or a caret pair
 abbrev pub bytesOf : Seen → List ℕ
@@ -26,3 +27,12 @@ Echoes x o l bs r l′ = Becomes o l (echoed x o l bs) r l′
 -- the bytes e behind a run that is measured
 abbrev pub ExtendsBy : Settings → Measure → List ℕ → Measure → Type 0
 ExtendsBy x m e r = (room c : ℕ) (bs : List ℕ) → Measures x room c bs m → Measures x room c (bs ++ e) r
+
+---- What an edit shows
+
+-- what ERASE and WERASE show by the character b, n units gone; what KILL shows
+abbrev pub erasedEcho : Settings → ℕ → ℕ → List ℕ
+erasedEcho x b n = cond (x .echo) (cond (x .echoe) (rubout n) (visible x b)) []
+
+abbrev pub killedEcho : Settings → ℕ → ℕ → List ℕ
+killedEcho x b n = cond (x .echo) (cond (x .echoke) (rubout n) (visible x b ++ cond (x .echok) (10 ∷ []) [])) []

@@ -1,10 +1,14 @@
 // Document 01, 'Echo': what a byte shows, in a caret pair or as itself.
+// Document 01, 'Echo': what is shown when a byte is stored, and when ERASE, WERASE and KILL edit.
 ghost use mathlib.Core.Path.{_≡_};
 ghost use mathlib.Core.List.{[], _∷_, _++_};
+ghost use Rattle.rules.specs.Lent.{before, after};
+ghost use Rattle.echo.specs.Contract.{bytesOf, Echoes, ExtendsBy, erasedEcho, killedEcho};
+ghost use mathlib.Core.Bool.{_&&_};
+ghost use lib.Dec.{eqb};
 ghost use Rattle.rules.specs.Echo as echo;
-ghost use Rattle.echo.specs.Contract.{bytesOf, Echoes, ExtendsBy};
-use columns::Measure;
 use output::Output;
+use output::columns::Measure;
 use rules::Settings;
 
 // What a byte shows: as itself, or as a caret pair.
@@ -55,30 +59,30 @@ pub fn visible(x: Settings, b: u8) -> Seen
 
 // the byte as it is visible
 pub fn show(o: Output, x: Settings, out: &mut [u8], b: u8) -> Output
-    ensures { λ r. ⌜ Echoes x o (now (out .entry)) (echo.visible x b) r (now (out .exit)) ⌝ }
+    ensures { λ r. ⌜ Echoes x o (before out) (echo.visible x b) r (after out) ⌝ }
 {
     let v = visible(x, b);
     let c = v.byte;
     if v.pair {
         let e = [94u8, c];
-        return queuing::show(o, x, out, &e);
+        return output::show(o, x, out, &e);
     }
     let e = [c];
-    queuing::show(o, x, out, &e)
+    output::show(o, x, out, &e)
 }
 
 // and 10 behind it
 pub fn show_line(o: Output, x: Settings, out: &mut [u8], b: u8) -> Output
-    ensures { λ r. ⌜ Echoes x o (now (out .entry)) (echo.visible x b ++ (10 ∷ [])) r (now (out .exit)) ⌝ }
+    ensures { λ r. ⌜ Echoes x o (before out) (echo.visible x b ++ (10 ∷ [])) r (after out) ⌝ }
 {
     let v = visible(x, b);
     let c = v.byte;
     if v.pair {
         let e = [94u8, c, 10];
-        return queuing::show(o, x, out, &e);
+        return output::show(o, x, out, &e);
     }
     let e = [c, 10];
-    queuing::show(o, x, out, &e)
+    output::show(o, x, out, &e)
 }
 
 // the byte as it is visible, behind what is measured
@@ -96,9 +100,64 @@ pub fn measured(m: Measure, x: Settings, b: u8) -> Measure
 
 // 'ECHO clear: nothing is shown'
 pub fn of_byte(o: Output, x: Settings, out: &mut [u8], b: u8) -> Output
-    ensures { λ r. ⌜ Echoes x o (now (out .entry)) (echo.echoOf x b) r (now (out .exit)) ⌝ }
+    ensures { λ r. ⌜ Echoes x o (before out) (echo.echoOf x b) r (after out) ⌝ }
 {
     if x.echo {
+        return show(o, x, out, b);
+    }
+    o.fit(out.len())
+}
+
+// 'except 10 when it is stored by step 9 under ECHONL and ICANON'
+pub fn of_stored(o: Output, x: Settings, out: &mut [u8], b: u8) -> Output
+    ensures { λ r. ⌜ Echoes x o (before out) (echo.storedEcho x b) r (after out) ⌝ }
+{
+    if x.echo {
+        return show(o, x, out, b);
+    }
+    if shows_newline(x, b) {
+        let e = [10u8];
+        return output::show(o, x, out, &e);
+    }
+    o.fit(out.len())
+}
+
+fn shows_newline(x: Settings, b: u8) -> bool
+    ensures { λ r. ⌜ r ≡ (eqb b 10 && x .echonl && x .icanon) ⌝ }
+{
+    if b == 10 {
+        if x.echonl {
+            return x.icanon;
+        }
+        return false;
+    }
+    false
+}
+
+// 'ERASE and WERASE under ECHOE show 8,32,8 for each unit removed, else their own echo.'
+pub fn of_erased(o: Output, x: Settings, out: &mut [u8], b: u8, n: usize) -> Output
+    ensures { λ r. ⌜ Echoes x o (before out) (erasedEcho x b n) r (after out) ⌝ }
+{
+    if x.echo {
+        if x.echoe {
+            return output::rub_out(o, x, out, n);
+        }
+        return show(o, x, out, b);
+    }
+    o.fit(out.len())
+}
+
+// 'KILL: ECHOKE 8,32,8 for each unit; else its echo, and 10 if ECHOK.'
+pub fn of_killed(o: Output, x: Settings, out: &mut [u8], b: u8, n: usize) -> Output
+    ensures { λ r. ⌜ Echoes x o (before out) (killedEcho x b n) r (after out) ⌝ }
+{
+    if x.echo {
+        if x.echoke {
+            return output::rub_out(o, x, out, n);
+        }
+        if x.echok {
+            return show_line(o, x, out, b);
+        }
         return show(o, x, out, b);
     }
     o.fit(out.len())

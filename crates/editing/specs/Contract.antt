@@ -1,6 +1,6 @@
 -- The units of the current line before a place, and what each function promises of them. On the right of each equation
 -- stand values at entry only.
-use Prim.Native.Nat.{ℕ, _+_, _<_, _≤_}
+use Prim.Native.Nat.{ℕ, _+_, _<_, _≤_, min, _/_, _%_}
 use mathlib.Core.Path.{_≡_}
 use mathlib.Core.List.{List, _∷_}
 use lib.ListN.{length, getD, take, drop}
@@ -10,6 +10,8 @@ use Rattle.rules.specs.Editing.{units, withoutUnits}
 use Rattle.input.specs.Contract.{placeOf, all, get, lineTo, Within}
 use Rattle.input.specs.declared.Input.{Input}
 use Rattle.editing.specs.declared.Run.{Run}
+use mathlib.Core.Bool.{Bool, not, _&&_, _||_}
+use lib.Dec.{eqb}
 
 -- the place k, the oldest at 0
 abbrev pub placeAt : Input → List ℕ → List ℕ → ℕ → Place
@@ -49,3 +51,18 @@ pub record Removes (i : Input) (bs ms : List ℕ) (n : ℕ) (r : Run) : Type 0 w
   pub high : r .at ≤ i .queue .len
   pub count : r .units ≡ n
   pub line : lineTo i bs ms (r .at) ≡ withoutUnits n (get i bs ms .current)
+
+-- The last unit before `end`, if there is one, whatever its bytes are.
+abbrev pub CutsOne : Input → List ℕ → ℕ → Run → Type 0
+CutsOne i ms end r = (bs : List ℕ) → length bs ≡ length ms → Cuts i bs ms end (min 1 (length (unitsTo i bs ms end))) r
+
+-- As many units of the current line as n says of them, whatever their bytes are.
+abbrev pub RemovesBy : (List (List Place) → ℕ) → Input → List ℕ → Run → Type 0
+RemovesBy n i ms r = (bs : List ℕ) → length bs ≡ length ms → Removes i bs ms (n (units (get i bs ms .current))) r
+
+---- Which places of stored input REPRINT shows
+
+-- REPRINT shows the byte at place k: it is the first of a unit of the current line, and the unit had an echo.
+abbrev pub showsAt : Input → List ℕ → ℕ → Bool
+showsAt i ms k =
+    not (eqb (getD (held (i .queue) ms) k 0 / 8 % 2) 1) && (eqb k (i .ready) || eqb (getD (held (i .queue) ms) k 0 % 2) 1)

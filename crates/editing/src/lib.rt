@@ -1,12 +1,16 @@
 // Document 01, 'Editing': how many units of the current line ERASE and KILL remove, and where these begin. Walks go
 // back over the current line alone.
+// Document 01, 'Editing': which bytes of the current line REPRINT shows.
+pub mod classes;
+pub mod reprinting;
+pub mod words;
+
 ghost use mathlib.Core.Path.{_≡_};
-ghost use mathlib.Core.List.{List};
-ghost use Prim.Native.Nat.{ℕ, _<_, min};
+ghost use Prim.Native.Nat.{_<_, min};
 ghost use lib.ListN.{length};
-ghost use Rattle.rules.specs.Editing.{units};
-ghost use Rattle.input.specs.Contract.{get, Within};
-ghost use Rattle.editing.specs.Contract.{unitsTo, Line, Starts, Cuts, Removes};
+ghost use Rattle.rules.specs.Lent.{before};
+ghost use Rattle.input.specs.Contract.{Within};
+ghost use Rattle.editing.specs.Contract.{Line, Starts, showsAt, CutsOne, RemovesBy};
 use input::Input;
 
 // A run of units before a place: where it begins, and how many it has.
@@ -19,13 +23,13 @@ pub struct Run {
 pub fn unit_start(i: Input, marks: &[u8], end: usize) -> usize
     requires { ⌜ Line i (now marks) end ⌝ }
     requires { ⌜ i .ready < end ⌝ }
-    ensures { λ r. ⌜ Starts i (now (marks .entry)) end r ⌝ }
+    ensures { λ r. ⌜ Starts i (before marks) end r ⌝ }
 {
     let q = i.queue;
     let mut at = end - 1;
     while at > i.ready {
         let m = q.at(marks, at);
-        if marks::starts(m) {
+        if input::starts(m) {
             return at;
         }
         at = at - 1;
@@ -36,7 +40,7 @@ pub fn unit_start(i: Input, marks: &[u8], end: usize) -> usize
 // one unit before end, where there is one
 pub fn one(i: Input, marks: &[u8], end: usize) -> Run
     requires { ⌜ Line i (now marks) end ⌝ }
-    ensures { λ r. ⌜ ((bs : List ℕ) → length bs ≡ length (now (marks .entry)) → Cuts i bs (now (marks .entry)) end (min 1 (length (unitsTo i bs (now (marks .entry)) end))) r) ⌝ }
+    ensures { λ r. ⌜ CutsOne i (before marks) end r ⌝ }
 {
     if end <= i.ready {
         return Run { at: end, units: 0 };
@@ -48,7 +52,7 @@ pub fn one(i: Input, marks: &[u8], end: usize) -> Run
 // 'ERASE removes the last unit of the current line'
 pub fn last_unit(i: Input, marks: &[u8]) -> Run
     requires { ⌜ Within i (length (now marks)) ⌝ }
-    ensures { λ r. ⌜ ((bs : List ℕ) → length bs ≡ length (now (marks .entry)) → Removes i bs (now (marks .entry)) (min 1 (length (units (get i bs (now (marks .entry)) .current)))) r) ⌝ }
+    ensures { λ r. ⌜ RemovesBy (λ us. min 1 (length us)) i (before marks) r ⌝ }
 {
     let q = i.queue;
     one(i, marks, q.len)
@@ -57,7 +61,7 @@ pub fn last_unit(i: Input, marks: &[u8]) -> Run
 // 'KILL all of it'
 pub fn whole_line(i: Input, marks: &[u8]) -> Run
     requires { ⌜ Within i (length (now marks)) ⌝ }
-    ensures { λ r. ⌜ ((bs : List ℕ) → length bs ≡ length (now (marks .entry)) → Removes i bs (now (marks .entry)) (length (units (get i bs (now (marks .entry)) .current))) r) ⌝ }
+    ensures { λ r. ⌜ RemovesBy length i (before marks) r ⌝ }
 {
     let q = i.queue;
     let mut begin = q.len;
@@ -70,4 +74,19 @@ pub fn whole_line(i: Input, marks: &[u8]) -> Run
         at: begin,
         units: count,
     }
+}
+
+// place k begins a unit of the current line that is not silent: REPRINT shows its byte
+pub fn is_shown(i: Input, marks: &[u8], k: usize) -> bool
+    ensures { λ r. ⌜ r ≡ showsAt i (before marks) k ⌝ }
+{
+    let q = i.queue;
+    let m = q.at(marks, k);
+    if input::silent(m) {
+        return false;
+    }
+    if k == i.ready {
+        return true;
+    }
+    input::starts(m)
 }

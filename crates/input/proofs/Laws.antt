@@ -18,7 +18,8 @@ use Rattle.queue.proofs.Laws.{stores-append, put-append, held-length, held-fitt
 use Rattle.rules.specs.Sizes.{Place, Input as Ruled, used}
 use Rattle.rules.specs.Settings.{stored}
 use Rattle.rules.specs.Fit.{keptIn}
-use Rattle.input.specs.Contract.{placeOf, bit, markOf, byteOf, places, all, get, put, added, Becomes, Within, Room, Grows, TellsEnd, TellsUnit, fitted, shortened, lineTo, cutAt, emptied, endedIn, unitOf}
+use Rattle.input.specs.Contract.{placeOf, bit, markOf, byteOf, places, all, get, put, added, Becomes, Within, Room, Grows, TellsEnd, TellsUnit}
+use Rattle.input.specs.Contract.{fitted, shortened, lineTo, cutAt, emptied, endedIn, unitOf}
 use Rattle.input.specs.declared.Input.{Input}
 use Rattle.input.specs.declared.Unit.{Unit}
 
@@ -422,7 +423,8 @@ module _ (i r : Input) (bs ms bs′ ms′ b m : List ℕ) (g : Grows i bs ms b m
       record {
         input =
             f .input
-            ∙ ap (λ (x : Input). record { queue = record { head = x .queue .head; len = x .queue .len + length c }; ready = x .ready; literal = x .literal }) (g .input)
+            ∙ ap (λ (x : Input). record { queue = record { head = x .queue .head; len = x .queue .len + length c }; ready = x .ready; literal = x .literal })
+            (g .input)
             ∙ ap (λ (x : ℕ). record { queue = record { head = h; len = x }; ready = i .ready; literal = i .literal }) n′;
         bytes =
             twice bs bs′ bs″ b c h k (length b) refl (g .bytes)
@@ -465,7 +467,8 @@ module _ (i r : Input) (bs ms bs′ ms′ : List ℕ) (u : List Place) (e : leng
         marks = g .marks ∙ laid-new ms markOf (rw (← e) (h .head)) w used-v new;
       }
     where
-      laid-new : (l : List ℕ) (f : Place → ℕ) → i .queue .head % length l ≡ i .queue .head → (w : Ruled) → used (get i bs ms) ≡ i .queue .len → added (get i bs ms) w ≡ u
+      laid-new : (l : List ℕ) (f : Place → ℕ) → i .queue .head % length l ≡ i .queue .head → (w : Ruled) → used (get i bs ms) ≡ i .queue .len
+          → added (get i bs ms) w ≡ u
           → stores (length l) l (i .queue .head + i .queue .len) (map f u)
           ≡ stores (length l) l (i .queue .head % length l + used (get i bs ms)) (map f (added (get i bs ms) w))
       laid-new l f eh w eu en =
@@ -608,7 +611,8 @@ module _ (i : Input) (bs ms : List ℕ) (e : length bs ≡ length ms) where
       let k : min (i .queue .len) at ≡ used w = omega (arith, h .len, fewer i bs ms w e at (cut-stored at le)) in
       record {
         input =
-            numbers-are (i .queue .head) (i .queue .head % length bs) (min (i .queue .len) at) (used w) (i .ready) (length (w .finished)) (i .literal) (i .literal)
+            numbers-are (i .queue .head) (i .queue .head % length bs) (min (i .queue .len) at) (used w) (i .ready) (length (w .finished)) (i .literal)
+            (i .literal)
             (sym (h .head)) k (sym (finished-length i bs ms e h)) refl;
         bytes = b .bytes;
         marks = b .marks;

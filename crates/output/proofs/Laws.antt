@@ -107,7 +107,8 @@ pub twice : (x : Settings) (o p r : Output) (l m k a b : List ℕ) → length (g
 twice x o p r l m k a b le f s =
     let w : Ruled = queued x (get o l) a in
     let fit : length (w .queue) ≤ length l = rw length-append le in
-    let again : Becomes p m (queued x w b) r k = becomes p r m k (queued x (get p m) b) (queued x w b) (ap (λ (y : Ruled). queued x y b) (get-after o p l m w f fit)) s in
+    let again : Becomes p m (queued x w b) r k =
+    becomes p r m k (queued x (get p m) b) (queued x w b) (ap (λ (y : Ruled). queued x y b) (get-after o p l m w f fit)) s in
     becomes o r l k (queued x w b) (queued x (get o l) (a ++ b)) (sym (queued-append x (get o l) a b)) (and-then o p l m w f x b r k fit again)
 
 -- whole, or not at all
@@ -128,7 +129,8 @@ unfolding get
 get-range o l = ap (λ (c : List ℕ). record { queue = c; column = o .column; stopped = o .stopped }) (held-fitted (o .queue) l)
 
 -- from the output in range
-pub via-range : (o p r : Output) (l l′ : List ℕ) (f : Ruled → Ruled) → p ≡ inRange (length l) o → Becomes p l (f (get p l)) r l′ → Becomes o l (f (get o l)) r l′
+pub via-range : (o p r : Output) (l l′ : List ℕ) (f : Ruled → Ruled) → p ≡ inRange (length l) o → Becomes p l (f (get p l)) r l′
+    → Becomes o l (f (get o l)) r l′
 via-range o p r l l′ f e b =
     let g : get p l ≡ get o l = ap (λ (y : Output). get y l) e ∙ get-range o l in
     let h : p .queue .head % length l ≡ o .queue .head % length l =

@@ -1,3 +1,4 @@
 pub mod Laws
 pub mod Measured
 pub mod Sending
+pub mod Run

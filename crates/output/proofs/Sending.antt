@@ -8,9 +8,8 @@ use lib.ListN.{length, take, drop}
 use Rattle.rules.specs.Output.{oldest}
 use Rattle.output.specs.Contract.{inRange, get, put, Sends}
 use Rattle.output.specs.declared.Output.{Output}
-use Rattle.queue.specs.Queue.{held, laid}
-use Rattle.runs.specs.Contract.{Takes}
-use Rattle.runs.specs.declared.Taken.{Taken}
+use Rattle.queue.specs.Queue.{held, laid, Takes}
+use Rattle.queue.specs.declared.Taken.{Taken}
 use Rattle.queue.specs.declared.Queue.{Queue}
 use Rattle.queue.proofs.Laws.{laid-fitted}
 
@@ -34,7 +33,8 @@ sent-stopped o p l d t e =
       output =
           e
           ∙ ap (λ (q : Queue). record { queue = q; column = o .column; stopped = o .stopped }) (laid-fitted (o .queue) l)
-          ∙ ap (λ (h : ℕ). record { queue = laid (h % length l) (held (o .queue) l); column = o .column; stopped = o .stopped }) (sym (add-zero (o .queue .head)))
+          ∙ ap (λ (h : ℕ). record { queue = laid (h % length l) (held (o .queue) l); column = o .column; stopped = o .stopped })
+          (sym (add-zero (o .queue .head)))
           ∙ ap (after-sending o l) (sym none);
       buffer = ap (λ (y : List ℕ). y ++ drop (length y) d) (sym none);
     }

@@ -3,16 +3,17 @@
 use Prim.Native.Nat.{ℕ, _+_, _-_, _%_, min}
 use mathlib.Core.Path.{_≡_}
 use mathlib.Core.List.{List, [], _++_}
-use lib.ListN.{length, drop}
+use lib.ListN.{length, drop, take}
 use Rattle.queue.specs.Ring.{stores}
 use Rattle.queue.specs.Queue.{held, fitted, laid}
 use Rattle.rules.specs.declared.Settings.{Settings}
 use Rattle.rules.specs.Sizes.{Output as Ruled}
-use Rattle.rules.specs.Output.{oldest}
+use Rattle.rules.specs.Output.{oldest, written, taken}
 use Rattle.output.specs.declared.Output.{Output}
-use Rattle.columns.specs.declared.Measure.{Measure}
-use Rattle.columns.specs.Contract.{Measures}
+use Rattle.output.specs.declared.columns.Measure.{Measure}
+use Rattle.output.specs.columns.Contract.{Measures}
 use Rattle.output.specs.declared.Sent.{Sent}
+use Rattle.output.specs.declared.Wrote.{Wrote}
 
 -- the output with its numbers in range of n bytes
 abbrev pub inRange : ℕ → Output → Output
@@ -41,3 +42,13 @@ pub record Sends (o : Output) (l d : List ℕ) (r : Sent) (d′ : List ℕ) : Ty
 -- the room that an output has in n places, before any byte
 abbrev pub Begins : Output → ℕ → Measure → Type 0
 Begins o n m = (x : Settings) → Measures x (n - min (o .queue .len) n) (o .column) [] m
+
+---- What a write promises
+
+-- how many bytes of src a write takes
+abbrev pub takes : Settings → Output → List ℕ → List ℕ → ℕ
+takes x o l src = taken (length l) x (length (get o l .queue)) (o .column) src
+
+pub record Writes (x : Settings) (o : Output) (l src : List ℕ) (r : Wrote) (l′ : List ℕ) : Type 0 where
+  pub count : r .count ≡ takes x o l src
+  pub output : Becomes o l (written x (get o l) (take (takes x o l src) src)) (r .output) l′

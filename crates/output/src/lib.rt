@@ -1,12 +1,23 @@
 // Document 01, 'Output': what is to be sent; transmits, a flush, the room for an echo.
+// Document 01, 'Output' and 'Echo': bytes are queued, by a write, as an echo that is queued whole or not at all, as a bell.
+pub mod columns;
+pub mod expansion;
+
 ghost use mathlib.Core.Path.{_≡_};
-ghost use mathlib.Core.List.{[]};
+ghost use mathlib.Core.List.{[], _∷_};
 ghost use mathlib.Core.Bool.{false};
-ghost use Prim.Native.Nat.{_%_};
+ghost use Prim.Native.Nat.{_%_, _+_, _<_, _≤_};
+ghost use Rattle.rules.specs.Lent.{before, after};
 ghost use Rattle.queue.specs.Queue.{laid};
-ghost use Rattle.output.specs.Contract.{inRange, Sends, Begins};
+ghost use Rattle.output.specs.Contract.{inRange, Sends, Begins, get, Becomes, Writes};
+ghost use lib.ListN.{length, replicate};
+ghost use Rattle.rules.specs.Output.{queued, queuedWhole, processed};
+ghost use Rattle.rules.specs.Echo.{rubout};
+ghost use Rattle.output.specs.expansion.Contract.{bytesOf};
 use columns::Measure;
+use expansion::Expansion;
 use queue::Queue;
+use rules::Settings;
 
 // What is to be sent: a queue in a lent slice of any length, the column behind it, and whether STOP came.
 pub struct Output {
@@ -58,7 +69,7 @@ impl Output {
 
     // 'Transmit hands out the oldest queued bytes, none while stopped.'
     pub fn transmit(self, out: &[u8], dst: &mut [u8]) -> Sent
-        ensures { λ r. ⌜ Sends self (now (out .entry)) (now (dst .entry)) r (now (dst .exit)) ⌝ }
+        ensures { λ r. ⌜ Sends self (before out) (before dst) r (after dst) ⌝ }
     {
         if self.stopped {
             let o = self.fit(out.len());
@@ -68,7 +79,7 @@ impl Output {
             };
         }
         let q = self.queue;
-        let t = runs::take(q, out, dst);
+        let t = queue::take(q, out, dst);
         let queue = t.queue;
         Sent {
             output: Output {
@@ -103,4 +114,139 @@ impl Output {
             stopped: stopped,
         }
     }
+}
+
+pub struct Wrote {
+    pub output: Output,
+    pub count: usize,
+}
+
+// one byte as it is, for which there is room
+fn put_byte(o: Output, x: Settings, out: &mut [u8], b: u8) -> Output
+    requires { ⌜ o .queue .len < length (now out) ⌝ }
+    ensures { λ r. ⌜ Becomes o (before out) (queued x (get o (before out)) (b ∷ [])) r (after out) ⌝ }
+{
+    let q = o.queue;
+    let queue = q.push(out, b);
+    let column = columns::next_column(x, o.column, b);
+    Output {
+        queue: queue,
+        column: column,
+        stopped: o.stopped,
+    }
+}
+
+fn put_spaces(was: Output, x: Settings, out: &mut [u8], n: usize) -> Output
+    requires { ⌜ was .queue .len + n ≤ length (now out) ⌝ }
+    ensures { λ r. ⌜ Becomes was (before out) (queued x (get was (before out)) (replicate n 32)) r (after out) ⌝ }
+{
+    let mut o = was.fit(out.len());
+    let mut i = 0;
+    while i < n {
+        o = put_byte(o, x, out, 32);
+        i += 1;
+    }
+    o
+}
+
+fn put(o: Output, x: Settings, out: &mut [u8], e: Expansion) -> Output
+    requires { ⌜ o .queue .len + length (bytesOf e) ≤ length (now out) ⌝ }
+    ensures { λ r. ⌜ Becomes o (before out) (queued x (get o (before out)) (bytesOf e)) r (after out) ⌝ }
+{
+    match e {
+        Expansion::Nothing => o.fit(out.len()),
+        Expansion::Byte(b) => put_byte(o, x, out, b),
+        Expansion::Pair => {
+            let first = put_byte(o, x, out, 13);
+            put_byte(first, x, out, 10)
+        }
+        Expansion::Spaces(n) => put_spaces(o, x, out, n),
+    }
+}
+
+// as much of src as fits, byte by byte
+pub fn write(was: Output, x: Settings, out: &mut [u8], src: &[u8]) -> Wrote
+    ensures { λ r. ⌜ Writes x was (before out) (before src) r (after out) ⌝ }
+{
+    let n = out.len();
+    let mut o = was.fit(n);
+    let mut i = 0;
+    while i < src.len() {
+        let b = src[i];
+        let e = expansion::expand(x, o.column, b);
+        let w = expansion::width(e);
+        let q = o.queue;
+        if n - q.len < w {
+            return Wrote {
+                output: o,
+                count: i,
+            };
+        }
+        o = put(o, x, out, e);
+        i += 1;
+    }
+    Wrote {
+        output: o,
+        count: i,
+    }
+}
+
+// an echo: all of bytes, or nothing
+pub fn show(was: Output, x: Settings, out: &mut [u8], bytes: &[u8]) -> Output
+    ensures { λ r. ⌜ Becomes was (before out) (queuedWhole (length (before out)) x (get was (before out)) (processed x (was .column) (before bytes))) r (after out) ⌝ }
+{
+    let n = out.len();
+    let mut m = was.measure(n);
+    let mut i = 0;
+    while i < bytes.len() {
+        m = m.and(x, bytes[i]);
+        i += 1;
+    }
+    if m.fits {
+        let r = write(was, x, out, bytes);
+        let o = r.output;
+        return o;
+    }
+    was.fit(n)
+}
+
+// 8,32,8, for which there is room
+fn rub_one(o: Output, x: Settings, out: &mut [u8]) -> Output
+    requires { ⌜ o .queue .len + 3 ≤ length (now out) ⌝ }
+    ensures { λ r. ⌜ Becomes o (before out) (queued x (get o (before out)) (8 ∷ 32 ∷ 8 ∷ [])) r (after out) ⌝ }
+{
+    let back = put_byte(o, x, out, 8);
+    let blank = put_byte(back, x, out, 32);
+    put_byte(blank, x, out, 8)
+}
+
+// 8,32,8 for each of n units, all or nothing
+pub fn rub_out(was: Output, x: Settings, out: &mut [u8], n: usize) -> Output
+    ensures { λ r. ⌜ Becomes was (before out) (queuedWhole (length (before out)) x (get was (before out)) (processed x (was .column) (rubout n))) r (after out) ⌝ }
+{
+    let size = out.len();
+    let mut o = was.fit(size);
+    let q = o.queue;
+    if (size - q.len) / 3 < n {
+        return o;
+    }
+    let mut i = 0;
+    while i < n {
+        o = rub_one(o, x, out);
+        i += 1;
+    }
+    o
+}
+
+// the bell: byte 7 as it is, if there is room
+pub fn bell(was: Output, x: Settings, out: &mut [u8]) -> Output
+    ensures { λ r. ⌜ Becomes was (before out) (queuedWhole (length (before out)) x (get was (before out)) (7 ∷ [])) r (after out) ⌝ }
+{
+    let n = out.len();
+    let o = was.fit(n);
+    let q = o.queue;
+    if q.len < n {
+        return put_byte(o, x, out, 7);
+    }
+    o
 }

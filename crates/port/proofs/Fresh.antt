@@ -13,7 +13,7 @@ use Rattle.rules.specs.Settings.{defaults, fresh}
 use Rattle.input.specs.Contract as input
 use Rattle.output.specs.Contract as output
 use Rattle.port.specs.State.{places, get}
-use Rattle.port.specs.Contract as port
+use Rattle.port.specs.Sending as port
 
 no-bytes : (l : List ℕ) → length l ≤ 0 → l ≡ []
 no-bytes [] le = refl
@@ -26,7 +26,12 @@ fresh-state bs ms os =
     let none : (l : List ℕ) → heldIn (laid 0 []) l ≡ [] = λ l. no-bytes (heldIn (laid 0 []) l) (omega (arith, held-length (laid 0 []) l)) in
     ap₂ (λ (l o : List ℕ). record {
       settings = defaults;
-      input = record { finished = take 0 (input.places l (heldIn (laid 0 []) (take (places bs ms) ms))); current = reverse (drop 0 (input.places l (heldIn (laid 0 []) (take (places bs ms) ms)))); literalNext = false };
+      input = record {
+        finished = take 0 (input.places l (heldIn (laid 0 []) (take (places bs ms) ms)));
+        current =
+            reverse (drop 0 (input.places l (heldIn (laid 0 []) (take (places bs ms) ms))));
+        literalNext = false;
+      };
       output = record { queue = o; column = 0; stopped = false };
       foreground = Nobody;
       hungUp = false;

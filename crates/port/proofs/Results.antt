@@ -9,7 +9,7 @@ use Rattle.rules.specs.Sizes.{Output as Ruled, withOutput as outputReplaced}
 use Rattle.output.specs.Contract as output
 use Rattle.output.proofs.Laws as law
 use Rattle.port.specs.State.{get, withOutput}
-use Rattle.port.specs.Contract.{Outcomes, result}
+use Rattle.port.specs.Sending.{Outcomes, result}
 use Rattle.port.specs.declared.Port.{Port}
 use Rattle.port.specs.declared.Answered.{Answered}
 

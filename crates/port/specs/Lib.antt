@@ -1,2 +1,5 @@
 pub mod State
-pub mod Contract
+pub mod Sending
+pub mod Layers
+pub mod Calls
+pub mod following

@@ -1,8 +1,12 @@
 // A port of document 01: its state, a fresh one, flushing its output, an answer. A port is scalars by value; its three queues are lent as
 // slices of any length (input bytes, input marks, output), made by whoever owns the port.
+// A port put together again; what the layers between the public calls and the queues promise of a port.
+// What every call on a port and its slices begins with.
 ghost use mathlib.Core.Path.{_≡_};
 ghost use Rattle.port.specs.State.{withOutput};
-ghost use Rattle.port.specs.Contract as promise;
+ghost use Rattle.port.specs.Layers.{assembled};
+ghost use Rattle.port.specs.Calls.{ranged};
+ghost use Rattle.port.specs.Sending as promise;
 use input::Input;
 use output::Output;
 use rules::Answer;
@@ -91,4 +95,33 @@ pub fn says(p: Port, outcome: Outcome, count: usize) -> Answered
             count: count,
         },
     }
+}
+
+// the port with other queues and another waiting read
+pub fn assemble(p: Port, input: Input, output: Output, waiting: Waiting) -> Port
+    ensures { λ r. ⌜ r ≡ assembled p input output waiting ⌝ }
+{
+    let settings = p.settings;
+    let foreground = p.foreground;
+    Port {
+        settings: settings,
+        line: p.line,
+        input: input,
+        output: output,
+        foreground: foreground,
+        hung: p.hung,
+        waiting: waiting,
+    }
+}
+
+// the same port, its numbers in range of n places of input and m bytes of output
+pub fn in_range(p: Port, n: usize, m: usize) -> Port
+    ensures { λ r. ⌜ r ≡ ranged p n m ⌝ }
+{
+    let i = p.input;
+    let o = p.output;
+    let input = i.fit(n);
+    let output = o.fit(m);
+    let waiting = p.waiting;
+    assemble(p, input, output, waiting)
 }

@@ -165,7 +165,8 @@ drop-oldest-of q p n k gone a e eg ea =
     let h : p .head ≡ q .head % n = fit-head q p n e in
     let g : gone ≡ min k (min (q .len) n) = eg ∙ ap (min k) m in
     let len : p .len - gone ≡ min (q .len) n - k = omega arith in
-    ap (λ (x : ℕ). record { head = x; len = p .len - gone }) (ea ∙ ap (λ (x : ℕ). (x + gone) % n) h ∙ mod-add-mod (q .head) n gone ∙ ap (λ (x : ℕ). (q .head + x) % n) g)
+    ap (λ (x : ℕ). record { head = x; len = p .len - gone }) (ea ∙ ap (λ (x : ℕ). (x + gone) % n) h ∙ mod-add-mod (q .head) n gone
+    ∙ ap (λ (x : ℕ). (q .head + x) % n) g)
     ∙ ap (λ (x : ℕ). record { head = (q .head + min k (min (q .len) n)) % n; len = x }) len
 
 pub place-lt : (x a n : ℕ) → a ≡ x % n → 0 < n → a < n

@@ -6,7 +6,8 @@ use lib.Dec.{ltb}
 use borrow.Author.Tests.{ltb-true, ltb-false}
 use mathlib.Core.List.{List, [], _∷_, _++_, append-assoc}
 use Prim.Native.Nat.{ℕ, zero, suc, _+_, _-_, _%_, _<_, _≤_, suc-le-suc}
-use native.Mathlib.Nat.{add-zero, add-suc, suc-add, suc-mod, mod-mod, mod-add-mod, mod-lt, mod-eq-of-lt, mod-eq-sub-mod, le-of-suc-le-suc, not-suc-le-zero, sub-zero, suc-sub-suc}
+use native.Mathlib.Nat.{add-zero, add-suc, suc-add, suc-mod, mod-mod, mod-add-mod, mod-lt, mod-eq-of-lt, mod-eq-sub-mod, le-of-suc-le-suc}
+use native.Mathlib.Nat.{not-suc-le-zero, sub-zero, suc-sub-suc}
 use native.Mathlib.Omega.{arith}
 use lib.ListN.{length, getD, set, take, drop, length-set}
 use lib.Seq.{getD-set-same, getD-set-other}

@@ -1,10 +1,32 @@
+// Two numbers: the lesser of them, and what one has more than the other.
 // A ring of bytes in a lent slice of any length: where its oldest byte stands, and how many it holds.
 // Any two numbers mean a queue: the head is read modulo the slice's length, the count as at most that length.
+// A run of bytes appended to a queue, or nothing of it; the oldest bytes of a queue taken.
 ghost use mathlib.Core.Path.{_≡_};
+ghost use Prim.Native.Nat.{_-_, min, _+_, _<_, _%_};
 ghost use mathlib.Core.List.{[], _∷_};
-ghost use Prim.Native.Nat.{_+_, _-_, _<_, _%_, min};
 ghost use lib.ListN.{length, getD};
-ghost use Rattle.queue.specs.Queue.{held, fitted, laid, appended, changed, Holds};
+ghost use Rattle.rules.specs.Lent.{before, after};
+ghost use Rattle.queue.specs.Queue.{held, fitted, laid, appended, changed, Holds, Takes, withoutOldest, withoutNewest};
+
+pub fn least(a: usize, b: usize) -> usize
+    ensures { λ r. ⌜ r ≡ min a b ⌝ }
+{
+    if a < b {
+        return a;
+    }
+    b
+}
+
+// a − b, not below 0
+pub fn less(a: usize, b: usize) -> usize
+    ensures { λ r. ⌜ r ≡ a - b ⌝ }
+{
+    if b > a {
+        return 0;
+    }
+    a - b
+}
 
 pub struct Queue {
     pub head: usize,
@@ -47,7 +69,7 @@ impl Queue {
         ensures { λ r. ⌜ r ≡ fitted n self ⌝ }
     {
         let head = home(self.head, n);
-        let len = numbers::least(self.len, n);
+        let len = least(self.len, n);
         Queue {
             head: head,
             len: len,
@@ -56,7 +78,7 @@ impl Queue {
 
     // one byte more, where there is room
     pub fn push(self, ring: &mut [u8], b: u8) -> Queue
-        ensures { λ r. ⌜ Holds self (now (ring .entry)) (appended (length (now (ring .entry))) (held self (now (ring .entry))) (b ∷ [])) r (now (ring .exit)) ⌝ }
+        ensures { λ r. ⌜ Holds self (before ring) (appended (length (before ring)) (held self (before ring)) (b ∷ [])) r (after ring) ⌝ }
     {
         let n = ring.len();
         let q = self.fit(n);
@@ -75,12 +97,12 @@ impl Queue {
 
     // without its k oldest
     pub fn drop_oldest(self, ring: &[u8], k: usize) -> Queue
-        ensures { λ r. ⌜ r ≡ record { head = (self .head + min k (min (self .len) (length (now (ring .entry))))) % length (now (ring .entry)); len = min (self .len) (length (now (ring .entry))) - k } ⌝ }
+        ensures { λ r. ⌜ r ≡ withoutOldest (length (before ring)) k self ⌝ }
     {
         let n = ring.len();
         let q = self.fit(n);
         let len = q.len;
-        let gone = numbers::least(k, len);
+        let gone = least(k, len);
         let head = home(q.head + gone, n);
         Queue {
             head: head,
@@ -90,10 +112,10 @@ impl Queue {
 
     // without its k newest, in n places
     pub fn drop_newest(self, n: usize, k: usize) -> Queue
-        ensures { λ r. ⌜ r ≡ record { head = self .head % n; len = min (self .len) n - k } ⌝ }
+        ensures { λ r. ⌜ r ≡ withoutNewest n k self ⌝ }
     {
         let q = self.fit(n);
-        let len = numbers::less(q.len, k);
+        let len = less(q.len, k);
         Queue {
             head: q.head,
             len: len,
@@ -110,7 +132,7 @@ impl Queue {
 
     // the byte at place i, the oldest at 0; 0 behind the newest
     pub fn at(self, ring: &[u8], i: usize) -> u8
-        ensures { λ r. ⌜ r ≡ getD (held self (now (ring .entry))) i 0 ⌝ }
+        ensures { λ r. ⌜ r ≡ getD (held self (before ring)) i 0 ⌝ }
     {
         let n = ring.len();
         let q = self.fit(n);
@@ -123,7 +145,7 @@ impl Queue {
 
     // place i holds b from now on; behind the newest nothing changes
     pub fn change(self, ring: &mut [u8], i: usize, b: u8)
-        ensures { λ r. ⌜ now (ring .exit) ≡ changed self (now (ring .entry)) i b ⌝ }
+        ensures { λ r. ⌜ after ring ≡ changed self (before ring) i b ⌝ }
     {
         let n = ring.len();
         let q = self.fit(n);
@@ -131,5 +153,46 @@ impl Queue {
             let at = wrap(q.head + i, n);
             ring[at] = b;
         }
+    }
+}
+
+// What is left, and how many bytes were given.
+pub struct Taken {
+    pub queue: Queue,
+    pub count: usize,
+}
+
+// all of the bytes, or none
+pub fn push_all(q: Queue, ring: &mut [u8], bytes: &[u8]) -> Queue
+    ensures { λ r. ⌜ Holds q (before ring) (appended (length (before ring)) (held q (before ring)) (before bytes)) r (after ring) ⌝ }
+{
+    let n = ring.len();
+    let mut r = q.fit(n);
+    if n - r.len < bytes.len() {
+        return r;
+    }
+    let mut i = 0;
+    while i < bytes.len() {
+        r = r.push(ring, bytes[i]);
+        i += 1;
+    }
+    r
+}
+
+// the oldest bytes into dst, as many as it has room for
+pub fn take(q: Queue, ring: &[u8], dst: &mut [u8]) -> Taken
+    ensures { λ r. ⌜ Takes q (before ring) (before dst) r (after dst) ⌝ }
+{
+    let f = q.fit(ring.len());
+    let k = least(f.len, dst.len());
+    let mut i = 0;
+    while i < k {
+        dst[i] = q.at(ring, i);
+        i += 1;
+    }
+    let rest = q.drop_oldest(ring, k);
+    Taken {
+        queue: rest,
+        count: k,
     }
 }

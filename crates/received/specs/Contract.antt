@@ -1,15 +1,40 @@
--- What a hangup and an interrupt promise.
+-- The port at step 3.
+use mathlib.Core.Bool.{Bool, false, not, _&&_, true}
+use Rattle.rules.specs.declared.Settings.{Settings}
+use Rattle.port.specs.declared.Port.{Port}
+use Rattle.port.specs.Layers.{assembled, Becomes, state}
+use Rattle.received.specs.flushing.Contract.{literalTo, stopTo}
 use Prim.Native.Nat.{ℕ}
 use mathlib.Core.Path.{_≡_}
-use mathlib.Core.Bool.{true}
 use mathlib.Core.List.{List}
-use lib.ListN.{length}
+use Rattle.rules.specs.declared.Group.{Group}
 use Rattle.rules.specs.declared.Outcome.{Outcome}
-use Rattle.rules.specs.Sizes.{State}
-use Rattle.port.specs.declared.Port.{Port}
-use Rattle.assembling.specs.Contract.{state}
-use Rattle.goodbyte.specs.Contract.{Answers}
-use Rattle.goodbyte.specs.declared.Reported.{Reported}
+use Rattle.rules.specs.Sizes.{Sizes, State}
+use Rattle.rules.specs.Received.{carry}
+use Rattle.received.specs.meaning.Meaning.{meaningOf}
+use Rattle.received.specs.declared.meaning.Meaning.{Meaning}
+use Rattle.received.specs.declared.Reported.{Reported}
+use lib.ListN.{length}
+
+-- 'IXON and IXANY: output resumes.'
+abbrev pub resumed : Settings → Bool → Bool
+resumed x stopped = stopped && not (x .ixon && x .ixany)
+
+-- the port at step 3
+abbrev pub begun : Port → Port
+begun p = assembled p (literalTo false (p .input)) (stopTo (resumed (p .settings) (p .output .stopped)) (p .output)) (p .waiting)
+
+---- What the functions of an event promise: the state of the rules after it, every byte of the slices, and what is reported
+
+pub record Answers (p : Port) (bs ms os : List ℕ) (w : State × Outcome) (r : Reported) (bs′ ms′ os′ : List ℕ) : Type 0 where
+  pub port : Becomes p bs ms os (w .0) (r .port) bs′ ms′ os′
+  pub outcome : r .outcome ≡ w .1
+
+-- what is reported of a meaning where f is the foreground group
+abbrev pub Tells : Meaning → Group → Outcome → Type 0
+Tells m f r = (z : Sizes) (s : State) (x : Settings) → s .foreground ≡ f → r ≡ carry z s (meaningOf x m) .1
+
+---- What a hangup and an interrupt promise
 
 -- A function that writes no slice, for n places of input.
 abbrev pub Announces : Port → ℕ → List ℕ → (State → State × Outcome) → Reported → Type 0

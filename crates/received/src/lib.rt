@@ -1,18 +1,114 @@
+// Document 01, 'A good byte', step 2: output resumes; 'literal next' is cleared.
+// Document 01, 'A good byte': what the byte means is carried out on a port whose numbers are in range.
+// Document 01, 'A good byte, in this order': steps 1 to 9, and what is reported.
 // Document 01, 'Received events', on a port whose numbers are in range: what an event comes to is carried out.
+pub mod arrival;
+pub mod edits;
+pub mod flushing;
+pub mod meaning;
+pub mod storing;
+
 ghost use mathlib.Core.Path.{_≡_};
+ghost use Rattle.rules.specs.Lent.{before, after};
+ghost use Rattle.received.specs.Contract.{resumed, begun, Answers, Tells, Announces, hungUp};
 ghost use lib.ListN.{length};
-ghost use Rattle.rules.specs.Flushing as flushing;
+ghost use Rattle.received.specs.meaning.Meaning.{meaningOf};
+ghost use Rattle.port.specs.Layers.{Becomes, Ready, state, sizesOf, Ranged, assembled};
 ghost use Rattle.rules.specs.Received as steps;
-ghost use Rattle.assembling.specs.Contract.{Ranged, Ready, assembled, state, sizesOf};
-ghost use Rattle.goodbyte.specs.Contract.{Answers};
-ghost use Rattle.received.specs.Contract.{Announces, hungUp};
+ghost use Rattle.rules.specs.Flushing as flushing;
 use arrival::Arrival;
-use goodbyte::Reported;
+use meaning::Meaning;
 use port::Port;
 use rules::Event;
 use rules::Group;
 use rules::Outcome;
+use rules::Settings;
 use rules::Signal;
+
+// 2. 'IXON and IXANY: output resumes.'
+fn resumes(x: Settings, stopped: bool) -> bool
+    ensures { λ r. ⌜ r ≡ resumed x stopped ⌝ }
+{
+    if x.ixon {
+        if x.ixany {
+            return false;
+        }
+        return stopped;
+    }
+    stopped
+}
+
+// step 2; and 'literal next' is cleared by every good byte that does not set it
+pub fn begins(p: Port) -> Port
+    ensures { λ r. ⌜ r ≡ begun p ⌝ }
+{
+    let x = p.settings;
+    let i = p.input;
+    let o = p.output;
+    let input = i.with_literal(false);
+    let output = o.stop(resumes(x, o.stopped));
+    let waiting = p.waiting;
+    port::assemble(p, input, output, waiting)
+}
+
+// what a good byte means is carried out
+pub fn carries(p: Port, bytes: &mut [u8], marks: &mut [u8], out: &mut [u8], m: Meaning) -> Port
+    requires { ⌜ Ready p (now bytes) (now marks) (now out) ⌝ }
+    ensures { λ r. ⌜ Becomes p (before bytes) (before marks) (before out) (steps.carry (sizesOf p (length (before bytes)) (length (before out))) (state p (before bytes) (before marks) (before out)) (meaningOf (p .settings) m) .0) r (after bytes) (after marks) (after out) ⌝ }
+{
+    let n = bytes.len();
+    match m {
+        Meaning::LiteralNext => flushing::sets_literal(p),
+        Meaning::Signals(_, b) => flushing::signals(p, n, out, b),
+        Meaning::Stops => flushing::stopped_to(p, true),
+        Meaning::Starts => flushing::stopped_to(p, false),
+        Meaning::Drops => p,
+        Meaning::Edits(e, b) => edits::edit(p, bytes, marks, out, e, b),
+        Meaning::Ends(b) => storing::ends(p, bytes, marks, out, b),
+        Meaning::Marks => storing::marks_end(p, bytes, marks, out),
+        Meaning::Stores(b) => storing::stores(p, bytes, marks, out, b),
+    }
+}
+
+// The port after an event, and the signal that is reported, or none.
+pub struct Reported {
+    pub port: Port,
+    pub outcome: Outcome,
+}
+
+fn tells(m: Meaning, f: Group) -> Outcome
+    ensures { λ r. ⌜ Tells m f r ⌝ }
+{
+    match m {
+        Meaning::LiteralNext => Outcome::Ok,
+        Meaning::Signals(g, _) => jobs::reported(g, f),
+        Meaning::Stops => Outcome::Ok,
+        Meaning::Starts => Outcome::Ok,
+        Meaning::Drops => Outcome::Ok,
+        Meaning::Edits(_, _) => Outcome::Ok,
+        Meaning::Ends(_) => Outcome::Ok,
+        Meaning::Marks => Outcome::Ok,
+        Meaning::Stores(_) => Outcome::Ok,
+    }
+}
+
+// a good byte, steps 1 to 9
+pub fn good(p: Port, bytes: &mut [u8], marks: &mut [u8], out: &mut [u8], b: u8) -> Reported
+    requires { ⌜ Ready p (now bytes) (now marks) (now out) ⌝ }
+    ensures { λ r. ⌜ Answers p (before bytes) (before marks) (before out) (steps.good (sizesOf p (length (before bytes)) (length (before out))) (state p (before bytes) (before marks) (before out)) b) r (after bytes) (after marks) (after out) ⌝ }
+{
+    let x = p.settings;
+    let i = p.input;
+    let m = meaning::means(x, i.literal, meaning::stripped(x, b));
+    let q = begins(p);
+    let f = q.foreground;
+    let outcome = tells(m, f);
+    let port = carries(q, bytes, marks, out, m);
+    Reported {
+        port: port,
+        outcome: outcome,
+    }
+}
 
 fn quiet(p: Port) -> Reported
     ensures { λ r. ⌜ r ≡ record { port = p; outcome = Outcome.Ok } ⌝ }
@@ -26,7 +122,7 @@ fn quiet(p: Port) -> Reported
 fn reports(p: Port, g: Signal, f: Group) -> Reported
     ensures { λ r. ⌜ r ≡ record { port = p; outcome = steps.reported g f } ⌝ }
 {
-    let outcome = reporting::reported(g, f);
+    let outcome = jobs::reported(g, f);
     Reported {
         port: p,
         outcome: outcome,
@@ -36,10 +132,10 @@ fn reports(p: Port, g: Signal, f: Group) -> Reported
 // 'flush both and INT'
 fn interrupts(p: Port, n: usize, out: &[u8]) -> Reported
     requires { ⌜ Ranged p n (length (now out)) ⌝ }
-    ensures { λ r. ⌜ Announces p n (now (out .entry)) (λ s. (flushing.flushBoth s, steps.reported Signal.Int (s .foreground))) r ⌝ }
+    ensures { λ r. ⌜ Announces p n (before out) (λ s. (flushing.flushBoth s, steps.reported Signal.Int (s .foreground))) r ⌝ }
 {
     let f = p.foreground;
-    let q = signalling::flush_both(p, n, out);
+    let q = flushing::flush_both(p, n, out);
     reports(q, Signal::Int, f)
 }
 
@@ -50,8 +146,8 @@ fn ticks(p: Port) -> Port
     let input = p.input;
     let output = p.output;
     let old = p.waiting;
-    let w = expiring::lowered(old);
-    assembling::assemble(p, input, output, w)
+    let w = waiting::lowered(old);
+    port::assemble(p, input, output, w)
 }
 
 fn hung_up(p: Port) -> Port
@@ -76,23 +172,23 @@ fn hung_up(p: Port) -> Port
 // 'both queues are flushed, the port is hung up, HUP goes to the controlling process'
 fn hangs_up(p: Port, n: usize, out: &[u8]) -> Reported
     requires { ⌜ Ranged p n (length (now out)) ⌝ }
-    ensures { λ r. ⌜ Announces p n (now (out .entry)) (λ s. (steps.hungUp (flushing.flushBoth s), steps.reported Signal.Hup (s .foreground))) r ⌝ }
+    ensures { λ r. ⌜ Announces p n (before out) (λ s. (steps.hungUp (flushing.flushBoth s), steps.reported Signal.Hup (s .foreground))) r ⌝ }
 {
     let f = p.foreground;
-    let q = signalling::flush_both(p, n, out);
+    let q = flushing::flush_both(p, n, out);
     reports(hung_up(q), Signal::Hup, f)
 }
 
 // what an event comes to is carried out
 pub fn received(p: Port, bytes: &mut [u8], marks: &mut [u8], out: &mut [u8], e: Event) -> Reported
     requires { ⌜ Ready p (now bytes) (now marks) (now out) ⌝ }
-    ensures { λ r. ⌜ Answers p (now (bytes .entry)) (now (marks .entry)) (now (out .entry)) (steps.received (sizesOf p (length (now (bytes .entry))) (length (now (out .entry)))) (state p (now (bytes .entry)) (now (marks .entry)) (now (out .entry))) e) r (now (bytes .exit)) (now (marks .exit)) (now (out .exit)) ⌝ }
+    ensures { λ r. ⌜ Answers p (before bytes) (before marks) (before out) (steps.received (sizesOf p (length (before bytes)) (length (before out))) (state p (before bytes) (before marks) (before out)) e) r (after bytes) (after marks) (after out) ⌝ }
 {
     let a = arrival::arrives(p.settings, p.hung, e);
     match a {
         Arrival::Nothing => quiet(p),
-        Arrival::Good(b) => goodbyte::good(p, bytes, marks, out, b),
-        Arrival::Silent(u) => quiet(unechoed::silently(p, bytes, marks, out, u)),
+        Arrival::Good(b) => good(p, bytes, marks, out, b),
+        Arrival::Silent(u) => quiet(storing::silently(p, bytes, marks, out, u)),
         Arrival::Interrupt => interrupts(p, bytes.len(), out),
         Arrival::Tick => quiet(ticks(p)),
         Arrival::Hangup => hangs_up(p, bytes.len(), out),

@@ -12,8 +12,9 @@ use Rattle.rules.specs.declared.Event.{Event}
 use Rattle.rules.specs.declared.Call.{Call}
 use Rattle.rules.specs.declared.Call.the-variants.{Set, Receive, Flush, Foreground}
 use Rattle.rules.specs.Settings.{settingsOf}
-use Rattle.rules.specs.Trace.{Decoded, malformed, asks, bitOf, isFlag, flag, settingsOn, readOn, transmitOn, settingsRecord, byteRecord, emptyRecord, readRecord, transmitRecord, flushRecord, foregroundRecord}
-use Rattle.bodies.specs.Bodies.{count, number}
+use Rattle.rules.specs.Trace.{Decoded, malformed, asks, bitOf, isFlag, flag, settingsOn, readOn, transmitOn, settingsRecord, byteRecord, emptyRecord}
+use Rattle.rules.specs.Trace.{readRecord, transmitRecord, flushRecord, foregroundRecord}
+use Rattle.records.specs.Bodies.{count, number}
 use Rattle.records.specs.Records.{told}
 use Rattle.records.specs.declared.Decoded.the-variants.{WellFormed}
 

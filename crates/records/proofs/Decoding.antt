@@ -14,8 +14,9 @@ use Rattle.rules.specs.declared.Event.the-variants.{Good, Parity, Framing, Brea
 use Rattle.rules.specs.declared.Call.{Call}
 use Rattle.rules.specs.declared.Call.the-variants.{Set, Receive, Read, Write, Transmit, Flush, Cancel, Foreground}
 use Rattle.rules.specs.Settings.{settingsOf}
-use Rattle.rules.specs.Trace.{Decoded, malformed, asks, bitOf, isFlag, flag, readOn, transmitOn, settingsRecord, byteRecord, emptyRecord, readRecord, writeRecord, transmitRecord, flushRecord, foregroundRecord, decode}
-use Rattle.bodies.specs.Bodies.{count, number}
+use Rattle.rules.specs.Trace.{Decoded, malformed, asks, bitOf, isFlag, flag, readOn, transmitOn, settingsRecord, byteRecord, emptyRecord, readRecord}
+use Rattle.rules.specs.Trace.{writeRecord, transmitRecord, flushRecord, foregroundRecord, decode}
+use Rattle.records.specs.Bodies.{count, number}
 use Rattle.records.specs.Records.{Decodes, told, meant}
 use Rattle.records.specs.declared.Decoded as ours
 use Rattle.records.proofs.Bodies.{settings-by, byte-by, empty-by, read-by, transmit-by, flush-by, foreground-by}

@@ -1,1 +1,3 @@
+pub mod Bodies
 pub mod Records
+pub mod lines

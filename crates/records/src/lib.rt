@@ -1,16 +1,63 @@
+// Document 01, 'The trace program': the numbers in a record's body.
 // Document 01, 'The trace program': what a record asks for.
+pub mod lines;
+
 ghost use mathlib.Core.Path.{_≡_};
+ghost use Prim.Native.Nat.{_<_, ℕ};
+ghost use lib.ListN.{getD, length};
+ghost use Rattle.rules.specs.Lent.{before};
+ghost use Rattle.rules.specs.Trace.{«two», «four», bitOf, asks, malformed, settingsRecord, readRecord, writeRecord, transmitRecord, flushRecord, foregroundRecord};
+ghost use Rattle.records.specs.Bodies.{count, number};
 ghost use mathlib.Core.List.{[]};
 ghost use mathlib.Core.Bool.{cond};
-ghost use Prim.Native.Nat.{ℕ, _<_};
-ghost use lib.ListN.{length, getD};
 ghost use lib.Dec.{eqb};
 ghost use Rattle.rules.specs.Settings.{settingsOf};
-ghost use Rattle.rules.specs.Trace.{bitOf, asks, malformed, settingsRecord, readRecord, writeRecord, transmitRecord, flushRecord, foregroundRecord};
 ghost use Rattle.records.specs.Records.{told, Decodes};
 use rules::Call;
 use rules::Event;
 use rules::Settings;
+
+// The byte at place i of what a record holds, 0 beyond the end.
+pub fn value(values: &[u8], i: usize) -> u8
+    ensures { λ r. ⌜ r ≡ getD (before values) i 0 ⌝ }
+{
+    if i < values.len() {
+        return values[i];
+    }
+    0
+}
+
+// A 2-byte number, 'little-endian'.
+pub fn two(a: u8, b: u8) -> usize
+    ensures { λ r. ⌜ r ≡ «two» a b ⌝ }
+    ensures { λ r. ⌜ r < 65536 ⌝ }
+{
+    a as usize + 256 * (b as usize)
+}
+
+// The 2-byte number at the front of a body.
+pub fn count_of(body: &[u8]) -> usize
+    ensures { λ r. ⌜ r ≡ count (before body) ⌝ }
+{
+    two(value(body, 0), value(body, 1))
+}
+
+fn four(a: u8, b: u8, c: u8, d: u8) -> u32
+    ensures { λ r. ⌜ r ≡ «four» a b c d ⌝ }
+{
+    a as u32 + 256 * (b as u32) + 65536 * (c as u32 + 256 * (d as u32))
+}
+
+// The 4-byte number at the front of a body.
+pub fn number_of(body: &[u8]) -> u32
+    ensures { λ r. ⌜ r ≡ number (before body) ⌝ }
+{
+    let a = value(body, 0);
+    let b = value(body, 1);
+    let c = value(body, 2);
+    let d = value(body, 3);
+    four(a, b, c, d)
+}
 
 // What a record asks for, and how many bytes are lent to the call: for a write the body itself, for a read and a
 // transmit so many zeros.
@@ -21,12 +68,12 @@ pub enum Decoded {
 
 // The 15 values in the table's order, each in its default's place.
 fn in_places(values: &[u8]) -> [u8; 15]
-    ensures { λ r. ⌜ ((i : ℕ) → i < 15 → getD r i 0 ≡ getD (now (values .entry)) i 0) ⌝ }
+    ensures { λ r. ⌜ ((i : ℕ) → i < 15 → getD r i 0 ≡ getD (before values) i 0) ⌝ }
 {
     let mut v = settings::DEFAULTS;
     let mut i = 0;
     while i < 15 {
-        v[i] = bodies::value(values, i);
+        v[i] = value(values, i);
         i += 1;
     }
     v
@@ -34,19 +81,19 @@ fn in_places(values: &[u8]) -> [u8; 15]
 
 // The settings that a record's 32 flags and 15 values mean.
 fn recorded(flags: u32, values: &[u8]) -> Settings
-    ensures { λ r. ⌜ r ≡ settingsOf (bitOf flags) (now (values .entry)) ⌝ }
+    ensures { λ r. ⌜ r ≡ settingsOf (bitOf flags) (before values) ⌝ }
 {
-    flags::settings_of(flags, in_places(values))
+    settings::settings_of(flags, in_places(values))
 }
 
 // '1 settings (4 flag bytes, 15 values)'
 fn settings_record(body: &[u8]) -> Decoded
-    ensures { λ r. ⌜ r ≡ told (settingsRecord (now (body .entry))) ⌝ }
+    ensures { λ r. ⌜ r ≡ told (settingsRecord (before body)) ⌝ }
 {
     if body.len() != 19 {
         return Decoded::Malformed;
     }
-    let flags = bodies::number_of(body);
+    let flags = number_of(body);
     let x = recorded(flags, &body[4..]);
     Decoded::WellFormed {
         call: Call::Set(x),
@@ -56,7 +103,7 @@ fn settings_record(body: &[u8]) -> Decoded
 
 // A body of n bytes that asks for this call: '2 good, 3 parity, 4 framing byte (1); 5 break, 6 tick, 7 hangup, 12 cancel (0)'.
 fn sized_record(body: &[u8], n: usize, call: Call) -> Decoded
-    ensures { λ r. ⌜ r ≡ told (cond (eqb (length (now (body .entry))) n) (asks call []) malformed) ⌝ }
+    ensures { λ r. ⌜ r ≡ told (cond (eqb (length (before body)) n) (asks call []) malformed) ⌝ }
 {
     if body.len() != n {
         return Decoded::Malformed;
@@ -69,10 +116,10 @@ fn sized_record(body: &[u8], n: usize, call: Call) -> Decoded
 
 // '8 read (2-byte count to 1,024, then 0 or 1 for non-blocking)'
 fn read_record(body: &[u8]) -> Decoded
-    ensures { λ r. ⌜ r ≡ told (readRecord (now (body .entry))) ⌝ }
+    ensures { λ r. ⌜ r ≡ told (readRecord (before body)) ⌝ }
 {
-    let n = bodies::count_of(body);
-    let flag = bodies::value(body, 2);
+    let n = count_of(body);
+    let flag = value(body, 2);
     if body.len() != 3 {
         return Decoded::Malformed;
     }
@@ -92,7 +139,7 @@ fn read_record(body: &[u8]) -> Decoded
 
 // '9 write (0 to 512)'
 fn write_record(body: &[u8]) -> Decoded
-    ensures { λ r. ⌜ r ≡ told (writeRecord (now (body .entry))) ⌝ }
+    ensures { λ r. ⌜ r ≡ told (writeRecord (before body)) ⌝ }
 {
     if body.len() > 512 {
         return Decoded::Malformed;
@@ -105,9 +152,9 @@ fn write_record(body: &[u8]) -> Decoded
 
 // '10 transmit (2-byte count to 2,048)'
 fn transmit_record(body: &[u8]) -> Decoded
-    ensures { λ r. ⌜ r ≡ told (transmitRecord (now (body .entry))) ⌝ }
+    ensures { λ r. ⌜ r ≡ told (transmitRecord (before body)) ⌝ }
 {
-    let n = bodies::count_of(body);
+    let n = count_of(body);
     if body.len() != 2 {
         return Decoded::Malformed;
     }
@@ -122,9 +169,9 @@ fn transmit_record(body: &[u8]) -> Decoded
 
 // '11 flush (1 input, 2 output, 3 both)'
 fn flush_record(body: &[u8]) -> Decoded
-    ensures { λ r. ⌜ r ≡ told (flushRecord (now (body .entry))) ⌝ }
+    ensures { λ r. ⌜ r ≡ told (flushRecord (before body)) ⌝ }
 {
-    let choice = bodies::value(body, 0);
+    let choice = value(body, 0);
     if body.len() != 1 {
         return Decoded::Malformed;
     }
@@ -142,10 +189,10 @@ fn flush_record(body: &[u8]) -> Decoded
 
 // '13 foreground (4-byte group to 2,147,483,647, 0 for none; orphaned 0 or 1)'
 fn foreground_record(body: &[u8]) -> Decoded
-    ensures { λ r. ⌜ r ≡ told (foregroundRecord (now (body .entry))) ⌝ }
+    ensures { λ r. ⌜ r ≡ told (foregroundRecord (before body)) ⌝ }
 {
-    let group = bodies::number_of(body);
-    let orphaned = bodies::value(body, 4);
+    let group = number_of(body);
+    let orphaned = value(body, 4);
     if body.len() != 5 {
         return Decoded::Malformed;
     }
@@ -166,9 +213,9 @@ fn foreground_record(body: &[u8]) -> Decoded
 
 // What a record of this kind and body asks for. 'Unknown kinds, wrong lengths and other values are malformed.'
 pub fn decode(kind: usize, body: &[u8]) -> Decoded
-    ensures { λ r. ⌜ Decodes kind (now (body .entry)) r ⌝ }
+    ensures { λ r. ⌜ Decodes kind (before body) r ⌝ }
 {
-    let b = bodies::value(body, 0);
+    let b = value(body, 0);
     match kind {
         1 => settings_record(body),
         2 => sized_record(body, 1, Call::Receive(Event::Good(b))),

@@ -227,9 +227,21 @@ reprinted =
 
 abbrev pub examples : List Example
 examples =
-    E1 ∷ E2 ∷ E3 ∷ E4 ∷ E5 ∷ E6 ∷ E7 ∷ E8 ∷ E8-flushed ∷ E9 ∷ E10 ∷ E11 ∷ E11-alternate ∷ E11-digits ∷ E12 ∷ unseen ∷ expired ∷ turnedOff ∷ noRoom ∷ mappedReturn ∷ partly ∷ reprinted ∷ []
+    E1 ∷ E2 ∷ E3 ∷ E4 ∷ E5 ∷ E6 ∷ E7 ∷ E8 ∷ E8-flushed ∷ E9 ∷ E10 ∷ E11 ∷ E11-alternate ∷ E11-digits ∷ E12 ∷ unseen ∷ expired ∷ turnedOff ∷ noRoom
+    ∷ mappedReturn ∷ partly ∷ reprinted ∷ []
 
 pub examples-hold : Holds theRules examples
 unfolding expand columnAfter
-examples-hold =
-    (refl, (refl, (refl, (refl, (refl, (refl, (refl, (refl, (refl, (refl, (refl, (refl, (refl, (refl, (refl, (refl, (refl, (refl, (refl, (refl, (refl, (refl, tt))))))))))))))))))))))
+examples-hold = (
+  refl,
+  (
+    refl,
+    (
+      refl,
+      (
+        refl,
+        (refl, (refl, (refl, (refl, (refl, (refl, (refl, (refl, (refl, (refl, (refl, (refl, (refl, (refl, (refl, (refl, (refl, (refl, tt)))))))))))))))))),
+      ),
+    ),
+  ),
+)

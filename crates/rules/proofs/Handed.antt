@@ -5,7 +5,8 @@ use mathlib.Core.Bool.{Bool, true, false, _&&_, _||_}
 use mathlib.Core.List.{List, []}
 use lib.ListN.{length}
 use lib.Dec.{eqb, ltb}
-use Rattle.rules.specs.Types.{Settings, Call, Set, Receive, Read, Write, Transmit, Flush, Cancel, Foreground, ReadVerdict, WriteVerdict, SettingsVerdict, Verdict}
+use Rattle.rules.specs.Types.{Settings, Call, Set, Receive, Read, Write, Transmit, Flush, Cancel, Foreground, ReadVerdict, WriteVerdict}
+use Rattle.rules.specs.Types.{SettingsVerdict, Verdict}
 use Rattle.rules.specs.Sizes.{Sizes, State}
 use Rattle.rules.specs.Settings.{acceptable}
 use Rattle.rules.specs.Refusals.{Reply, handed}

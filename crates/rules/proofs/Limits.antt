@@ -7,7 +7,8 @@ use mathlib.Core.List.{List, [], _∷_, _++_, reverse}
 use lib.ListN.{length, take, drop, length-append, length-reverse, length-drop}
 use lib.Dec.{ltb, leb, eqb}
 use borrow.Author.Tests.{ltb-true, ltb-false, leb-true}
-use Rattle.rules.specs.Types.{Settings, Event, Good, Parity, Framing, Break, Tick, Hangup, Call, Set, Receive, Read, Write, Transmit, Flush, Cancel, Foreground, ReadVerdict, WriteVerdict, SettingsVerdict, Verdict}
+use Rattle.rules.specs.Types.{Settings, Event, Good, Parity, Framing, Break, Tick, Hangup, Call, Set, Receive, Read, Write, Transmit, Flush}
+use Rattle.rules.specs.Types.{Cancel, Foreground, ReadVerdict, WriteVerdict, SettingsVerdict, Verdict}
 use Rattle.rules.specs.Sizes.{Sizes, Place, Input, Output, State, used, unit, delimiter, endOfFile, withInput, withLiteralNext}
 use Rattle.rules.specs.Settings.{is, acceptable, withoutMarks, oneLine, stored, changedInput, fresh}
 use Rattle.rules.specs.Flushing.{flushInput, flushOutput, flushBoth, flushedOn}
@@ -15,7 +16,9 @@ use Rattle.rules.specs.Output.{capped, moved, columnAfter, columnsAfter,
 use Rattle.rules.specs.Editing.{Edit, erase, wordErase, kill, reprint, joined, units, placesOf, withoutUnits, removed, edited}
 use Rattle.rules.specs.Echo.{shown, editEcho}
 use Rattle.rules.specs.Fit.{unitFits, endFits, keptIn, kept, ended, overflowOn, unitOn, storesUnit, endOn, storesEnd}
-use Rattle.rules.specs.Received.{Meaning, literalNext, signals, stops, starts, drops, edits, ends, marks, stores, step1, step2, step3, step8, step9, mapped, flushedUnless, editOn, carry, good, silently, breakOn, brokenOn, parityOn, hungUp, hangupOn, event, receivedOn}
+use Rattle.rules.specs.Received.{Meaning, literalNext, signals, stops, starts, drops, edits, ends, marks, stores, step1, step2, step3, step8}
+use Rattle.rules.specs.Received.{step9, mapped, flushedUnless, editOn, carry, good, silently, breakOn, brokenOn, parityOn, hungUp, hangupOn}
+use Rattle.rules.specs.Received.{event, receivedOn}
 use Rattle.rules.specs.Reads.{Part, firstLine, partOf, finish, isEmpty, doneOn, ruledOn, clashes, readOn}
 use Rattle.rules.specs.Verdicts.{tooLarge, foregroundOn, judgedOn, readVerdict, writeVerdict, settingsVerdict}
 use Rattle.rules.proofs.Truth.{either, or-false, and-true}
@@ -228,7 +231,12 @@ line-length (p ∷ q ∷ ps) = ap suc (line-length (q ∷ ps))
 module _ (z : Sizes) where
   shown-within : (s : State) (bs : List ℕ) → Within z s → Within z (shown z s bs)
   shown-within s bs h =
-      record { input = h .input; output = whole-within z (s .settings) (s .output) (processed (s .settings) (s .output .column) bs) (h .output); settings = h .settings }
+      record {
+        input = h .input;
+        output = whole-within z (s .settings) (s .output) (processed (s .settings) (s .output .column) bs) (h .output);
+        settings =
+            h .settings;
+      }
 
   flush-within : (s : State) → Within z s → Within z (flushInput s)
   flush-within s h = record { input = none-within z (s .settings .icanon) false; output = h .output; settings = h .settings }
@@ -467,7 +475,11 @@ module _ (z : Sizes) where
   step-within s Transmit lent h =
       record {
         input = h .input;
-        output = record { queue = omega (arith, h .output .queue, length-drop (length (oldest (s .output) (length lent))) (s .output .queue)); column = h .output .column };
+        output = record {
+          queue = omega (arith, h .output .queue, length-drop (length (oldest (s .output) (length lent))) (s .output .queue));
+          column =
+              h .output .column;
+        };
         settings = h .settings;
       }
   step-within s (Flush choice) lent h = flushed-within (eqb choice 1) (eqb choice 2) (eqb choice 3) s h

@@ -1,5 +1,6 @@
 -- Document 01 as definitions, one file for each of its sections.
 pub mod Types
+pub mod Lent
 pub mod Sizes
 pub mod Settings
 pub mod Refusals
@@ -14,3 +15,4 @@ pub mod Reads
 pub mod Verdicts
 pub mod Step
 pub mod Trace
+pub mod asking

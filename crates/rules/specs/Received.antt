@@ -3,7 +3,8 @@ use Prim.Native.Nat.{ℕ, _-_, _%_}
 use mathlib.Core.Bool.{Bool, true, false, not, _&&_, _||_, cond}
 use mathlib.Core.List.{List, [], _∷_}
 use lib.Dec.{eqb}
-use Rattle.rules.specs.Types.{Settings, Event, Good, Parity, Framing, Break, Tick, Hangup, Signal, Int, Quit, Tstp, Hup, Outcome, Ok, Reports, Group, Nobody, Number, Waiting, Idle, Untimed, Timed}
+use Rattle.rules.specs.Types.{Settings, Event, Good, Parity, Framing, Break, Tick, Hangup, Signal, Int, Quit, Tstp, Hup, Outcome, Ok, Reports}
+use Rattle.rules.specs.Types.{Group, Nobody, Number, Waiting, Idle, Untimed, Timed}
 use Rattle.rules.specs.Sizes.{Sizes, Place, State, unit, delimiter, endOfFile, withInput, withOutput, withWaiting, withLiteralNext, withStopped}
 use Rattle.rules.specs.Settings.{is}
 use Rattle.rules.specs.Flushing.{flushBoth}

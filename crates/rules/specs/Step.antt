@@ -3,7 +3,9 @@ use Prim.Native.Nat.{ℕ}
 use mathlib.Core.Bool.{Bool, true, false}
 use mathlib.Core.List.{List, [], _∷_}
 use lib.ListN.{length}
-use Rattle.rules.specs.Types.{Settings, Event, Good, Parity, Framing, Break, Tick, Hangup, Call, Set, Receive, Read, Write, Transmit, Flush, Cancel, Foreground, ReadVerdict, WriteVerdict, SettingsVerdict, BadSettings, ReadWaits, Outcome, Ok, Waiting, Idle, Untimed, Timed}
+use Rattle.rules.specs.Types.{Settings, Event, Good, Parity, Framing, Break, Tick, Hangup, Call, Set, Receive, Read, Write, Transmit, Flush}
+use Rattle.rules.specs.Types.{Cancel, Foreground, ReadVerdict, WriteVerdict, SettingsVerdict, BadSettings, ReadWaits, Outcome, Ok, Waiting}
+use Rattle.rules.specs.Types.{Idle, Untimed, Timed}
 use Rattle.rules.specs.Sizes.{Sizes, State, withWaiting}
 use Rattle.rules.specs.Settings.{acceptable, changed}
 use Rattle.rules.specs.Refusals.{Reply, says, refuses}

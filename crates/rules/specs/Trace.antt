@@ -6,7 +6,9 @@ use mathlib.Core.Bool.{Bool, true, false, _&&_, cond}
 use mathlib.Core.List.{List, [], _∷_, _++_}
 use lib.ListN.{length, take, drop, replicate}
 use lib.Dec.{leb, ltb, eqb}
-use Rattle.rules.specs.Types.{Good, Parity, Framing, Break, Tick, Hangup, Event, Call, Set, Receive, Read, Write, Transmit, Flush, Cancel, Foreground, Signal, Int, Quit, Tstp, Hup, Verdict, Allowed, Eio, Ttin, Ttou, OutOfRange, Outcome, Ok, Wait, Reports, Judged, Refused}
+use Rattle.rules.specs.Types.{Good, Parity, Framing, Break, Tick, Hangup, Event, Call, Set, Receive, Read, Write, Transmit, Flush, Cancel}
+use Rattle.rules.specs.Types.{Foreground, Signal, Int, Quit, Tstp, Hup, Verdict, Allowed, Eio, Ttin, Ttou, OutOfRange, Outcome, Ok, Wait}
+use Rattle.rules.specs.Types.{Reports, Judged, Refused}
 use Rattle.rules.specs.Sizes.{Sizes, State, base}
 use Rattle.rules.specs.Settings.{settingsOf, fresh}
 use Rattle.rules.specs.Refusals.{Reply, numberOf, says, handed}

@@ -4,7 +4,8 @@ pub use Rattle.rules.specs.declared.Event.{Event}
 pub use Rattle.rules.specs.declared.Event.the-variants.{Good, Parity, Framing, Break, Tick, Hangup}
 pub use Rattle.rules.specs.declared.Process.{Process}
 pub use Rattle.rules.specs.declared.Call.{Call}
-pub use Rattle.rules.specs.declared.Call.the-variants.{Set, Receive, Read, Write, Transmit, Flush, Cancel, Foreground, ReadVerdict, WriteVerdict, SettingsVerdict}
+pub use Rattle.rules.specs.declared.Call.the-variants.{Set, Receive, Read, Write, Transmit, Flush, Cancel, Foreground, ReadVerdict}
+pub use Rattle.rules.specs.declared.Call.the-variants.{WriteVerdict, SettingsVerdict}
 pub use Rattle.rules.specs.declared.Signal.{Signal}
 pub use Rattle.rules.specs.declared.Signal.the-variants.{Int, Quit, Tstp, Hup}
 pub use Rattle.rules.specs.declared.Verdict.{Verdict}

@@ -1,6 +1,6 @@
 // The public types that code and rules share, with document 01's names. Nothing here does anything.
-
 // 'Settings': the flags by bit, 0 to 31; the special characters in their order; MIN and TIME.
+
 pub struct Settings {
     pub ignbrk: bool,
     pub brkint: bool,

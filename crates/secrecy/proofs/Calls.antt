@@ -6,7 +6,8 @@ use mathlib.Core.Bool.{Bool, true, false, _||_}
 use mathlib.Core.List.{List, [], _∷_, map}
 use lib.ListN.{length}
 use lib.Dec.{eqb}
-use Rattle.secrecy.specs.Types.{Settings, Event, Good, Parity, Framing, Break, Tick, Hangup, Call, Set, Receive, Read, Write, Transmit, Flush, Cancel, Foreground, ReadVerdict, WriteVerdict, SettingsVerdict, Verdict, Ok}
+use Rattle.secrecy.specs.Types.{Settings, Event, Good, Parity, Framing, Break, Tick, Hangup, Call, Set, Receive, Read, Write, Transmit, Flush}
+use Rattle.secrecy.specs.Types.{Cancel, Foreground, ReadVerdict, WriteVerdict, SettingsVerdict, Verdict, Ok}
 use Rattle.rules.specs.Sizes.{Sizes, State, unit, withInput, withLiteralNext}
 use Rattle.rules.specs.Refusals.{says}
 use Rattle.rules.specs.Fit.{storesUnit}

@@ -5,7 +5,8 @@ use mathlib.Core.Bool.{Bool, true, false}
 use mathlib.Core.List.{List, [], _∷_, reverse}
 use lib.ListN.{length, take}
 use lib.Dec.{eqb}
-use Rattle.secrecy.specs.Types.{Settings, Call, Set, Receive, Read, Write, Transmit, Flush, Cancel, Foreground, ReadVerdict, WriteVerdict, SettingsVerdict}
+use Rattle.secrecy.specs.Types.{Settings, Call, Set, Receive, Read, Write, Transmit, Flush, Cancel, Foreground, ReadVerdict, WriteVerdict}
+use Rattle.secrecy.specs.Types.{SettingsVerdict}
 use Rattle.rules.specs.Sizes.{Sizes, Place, State, base, withOutput}
 use Rattle.rules.specs.Refusals.{Reply}
 use Rattle.rules.specs.Editing.{units}
@@ -80,7 +81,8 @@ countsColumns z s a = stepOf z (startsOn (isWrite (a .call)) s) a
 -- a plain byte m or n, one further call, a transmit
 breaks : (step : Step) (flags : List ℕ) (m n : ℕ) (a : Asked)
     → quiet flags .settings .echo ≡ false → Plain (quiet flags .settings) m → Plain (quiet flags .settings) n → KeepsSettings (a .call)
-    → eqb (weigh (runOf step base (quiet flags) (receives m ∷ a ∷ transmits ∷ []))) (weigh (runOf step base (quiet flags) (receives n ∷ a ∷ transmits ∷ []))) ≡ false
+    → eqb (weigh (runOf step base (quiet flags) (receives m ∷ a ∷ transmits ∷ []))) (weigh (runOf step base (quiet flags) (receives n ∷ a ∷ transmits ∷ [])))
+    ≡ false
     → Secret (runOf step) → ⊥
 breaks step flags m n a e p q k t h =
     refuted _ _ t

@@ -4,7 +4,8 @@ use native.Mathlib.Omega.{arith}
 use mathlib.Core.Path.{_≡_, refl, ap}
 use mathlib.Core.List.{List, [], _∷_, _++_}
 use lib.ListN.{length}
-use Rattle.secrecy.specs.Types.{Settings, Call, Set, Receive, Read, Write, Transmit, Flush, Cancel, Foreground, ReadVerdict, WriteVerdict, SettingsVerdict}
+use Rattle.secrecy.specs.Types.{Settings, Call, Set, Receive, Read, Write, Transmit, Flush, Cancel, Foreground, ReadVerdict, WriteVerdict}
+use Rattle.secrecy.specs.Types.{SettingsVerdict}
 use Rattle.rules.specs.Sizes.{Sizes, State}
 use Rattle.rules.specs.Refusals.{Reply}
 use Rattle.rules.specs.Step.{Asked, step}

@@ -5,12 +5,14 @@ use mathlib.Core.Bool.{Bool, true, false, _||_}
 use mathlib.Core.List.{List, [], _∷_}
 use lib.ListN.{length}
 use lib.Dec.{eqb}
-use Rattle.secrecy.specs.Types.{Event, Good, Parity, Framing, Break, Tick, Hangup, Call, Set, Receive, Read, Write, Transmit, Flush, Cancel, Foreground, ReadVerdict, WriteVerdict, SettingsVerdict, Verdict}
+use Rattle.secrecy.specs.Types.{Event, Good, Parity, Framing, Break, Tick, Hangup, Call, Set, Receive, Read, Write, Transmit, Flush, Cancel}
+use Rattle.secrecy.specs.Types.{Foreground, ReadVerdict, WriteVerdict, SettingsVerdict, Verdict}
 use Rattle.rules.specs.Sizes.{Sizes, Place, State, unit, delimiter, endOfFile, withInput, withLiteralNext}
 use Rattle.rules.specs.Flushing.{flushedOn}
 use Rattle.rules.specs.Editing.{Edit, erase, wordErase, kill, reprint, units}
 use Rattle.rules.specs.Fit.{unitFits, endFits, overflowOn, unitOn, storesUnit, endOn, storesEnd}
-use Rattle.rules.specs.Received.{Meaning, literalNext, signals, stops, starts, drops, edits, ends, marks, stores, step1, step2, step3, flushedUnless, editOn, carry, good, breakOn, brokenOn, parityOn, hangupOn, event, receivedOn}
+use Rattle.rules.specs.Received.{Meaning, literalNext, signals, stops, starts, drops, edits, ends, marks, stores, step1, step2, step3, flushedUnless}
+use Rattle.rules.specs.Received.{editOn, carry, good, breakOn, brokenOn, parityOn, hangupOn, event, receivedOn}
 use Rattle.rules.specs.Output.{writtenOn}
 use Rattle.rules.specs.Reads.{isEmpty, doneOn, ruledOn, clashes, readOn}
 use Rattle.rules.specs.Verdicts.{tooLarge, foregroundOn, judgedOn, readVerdict, writeVerdict, settingsVerdict}

@@ -80,7 +80,20 @@ plainly-stores x b h a = rw (h, a .newline, a .all-ones)
 step7-stores : (x : Settings) (b : ℕ) → x .echo ≡ false → Apart x b → step7 x b ≡ stores b [] []
 step7-stores x b h a =
     let c : NoneIs b (characters x) = a .special in
-    simp (and-false, h, a .newline, a .return, a .all-ones, c .0, c .1 .0, c .1 .1 .0, c .1 .1 .1 .0, c .1 .1 .1 .1 .0, c .1 .1 .1 .1 .1 .0, c .1 .1 .1 .1 .1 .1 .0)
+    simp (
+      and-false,
+      h,
+      a .newline,
+      a .return,
+      a .all-ones,
+      c .0,
+      c .1 .0,
+      c .1 .1 .0,
+      c .1 .1 .1 .0,
+      c .1 .1 .1 .1 .0,
+      c .1 .1 .1 .1 .1 .0,
+      c .1 .1 .1 .1 .1 .1 .0,
+    )
 
 step4-stores : (x : Settings) (b : ℕ) → x .echo ≡ false → Apart x b → step4 x b ≡ stores b [] []
 step4-stores x b h a =
@@ -130,7 +143,8 @@ module _ (f : ℕ → ℕ) (bytes : (n : ℕ) → n < 256 → f n ≡ n) where
 
   doubled-left : (x : Settings) (b : ℕ) → map f (doubled x b) ≡ doubled x b
   doubled-left x b =
-      either (λ (l : List ℕ). map f l ≡ l) (eqb b 255 && x .parmrk && not (x .ignpar) && not (x .istrip)) (ap (λ (n : ℕ). n ∷ []) (bytes 255 (omega arith))) refl
+      either (λ (l : List ℕ). map f l ≡ l) (eqb b 255 && x .parmrk && not (x .ignpar) && not (x .istrip)) (ap (λ (n : ℕ). n ∷ []) (bytes 255 (omega arith)))
+      refl
 
   plainly-left : (x : Settings) (b : ℕ) → f b ≡ b → Left (plainly x b)
   plainly-left x b e = ap₂ (λ (n : ℕ) (more : List ℕ). stores n more (storedEcho x b)) e (doubled-left x b)

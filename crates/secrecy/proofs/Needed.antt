@@ -115,7 +115,8 @@ needs : (k c : ℕ) → let x : Settings = quiet [] .settings in
     Outside (10 ∷ 13 ∷ 255 ∷ []) (others k) x c → Outside (10 ∷ 13 ∷ 255 ∷ []) (others k) x 97
     → eqb (weigh (run base (quiet []) (receives 97 ∷ receives c ∷ receives 98 ∷ receives 10 ∷ reads ∷ []))) 8 ≡ false → Needs k
 needs k c p q t =
-    breaks (quiet []) (receives 97 ∷ []) c 97 (receives 98 ∷ receives 10 ∷ reads ∷ []) (record { noEcho = refl; noWordErase = refl }) (tt, tt) p q (tt, (tt, (tt, tt))) t
+    breaks (quiet []) (receives 97 ∷ []) c 97 (receives 98 ∷ receives 10 ∷ reads ∷ []) (record { noEcho = refl; noWordErase = refl }) (tt, tt) p q
+    (tt, (tt, (tt, tt))) t
 
 -- in their order; WERASE, the number 4, is disabled
 pub needs-not-special : Needs 0 × Needs 1 × Needs 2 × Needs 3 × Needs 5 × Needs 6 × Needs 7 × Needs 8 × Needs 9 × Needs 10 × Needs 11 × Needs 12

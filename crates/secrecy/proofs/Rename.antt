@@ -304,6 +304,7 @@ module _ (f : ℕ → ℕ) where
   flushedOn-to false false true s = refl
   flushedOn-to false false false s = refl
 
-  pub foregroundOn-to : (t : Bool) (s : State) (group : ℕ) (orphaned : Bool) → foregroundOn t (state s) group orphaned ≡ both (foregroundOn t s group orphaned)
+  pub foregroundOn-to : (t : Bool) (s : State) (group : ℕ) (orphaned : Bool)
+      → foregroundOn t (state s) group orphaned ≡ both (foregroundOn t s group orphaned)
   foregroundOn-to true s group orphaned = refl
   foregroundOn-to false s group orphaned = refl

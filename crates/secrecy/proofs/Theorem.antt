@@ -7,14 +7,16 @@ use mathlib.Core.Bool.{Bool, true, false, not, _&&_, cond, false≢true}
 use mathlib.Core.List.{List, [], _∷_, map, map-map}
 use lib.Dec.{ltb, eqb}
 use borrow.Author.Tests.{lt-ltb, le-ltb, eqb-true, eqb-false, not-true}
-use Rattle.secrecy.specs.Types.{Settings, Event, Good, Parity, Framing, Break, Tick, Hangup, Call, Set, Receive, Read, Write, Transmit, Flush, Cancel, Foreground, ReadVerdict, WriteVerdict, SettingsVerdict, Ok}
+use Rattle.secrecy.specs.Types.{Settings, Event, Good, Parity, Framing, Break, Tick, Hangup, Call, Set, Receive, Read, Write, Transmit, Flush}
+use Rattle.secrecy.specs.Types.{Cancel, Foreground, ReadVerdict, WriteVerdict, SettingsVerdict, Ok}
 use Rattle.rules.specs.Sizes.{Sizes, Place, State, unit, withInput}
 use Rattle.rules.specs.Settings.{elem}
 use Rattle.rules.specs.Refusals.{Reply, says}
 use Rattle.rules.specs.Received.{step1}
 use Rattle.rules.specs.Step.{Asked, stepOf, run}
 use Rattle.rules.proofs.Truth.{and-true}
-use Rattle.secrecy.specs.Statement.{Each, none, more, nth, KeepsSettings, Quiet, reserved, Brings, good, parity, MayDiffer, same, differ, Delivered, equal, ofEvent, Alike, Secret}
+use Rattle.secrecy.specs.Statement.{Each, none, more, nth, KeepsSettings, Quiet, reserved, Brings, good, parity, MayDiffer, same, differ}
+use Rattle.secrecy.specs.Statement.{Delivered, equal, ofEvent, Alike, Secret}
 use Rattle.secrecy.specs.Reports.{Given, fixed, ofCall, Report, byteIn, byteOf, replyOf, OneReport}
 use Rattle.secrecy.proofs.Rename.{places, state, reply, both}
 use Rattle.secrecy.proofs.Keeps.{Keeps, unit-keeps, step-keeps}

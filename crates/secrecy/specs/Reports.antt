@@ -2,7 +2,8 @@
 use Prim.Native.Nat.{ℕ}
 use mathlib.Core.Path.{_≡_}
 use mathlib.Core.List.{List, map}
-use Rattle.secrecy.specs.Types.{Settings, Event, Good, Parity, Framing, Break, Tick, Hangup, Call, Set, Receive, Read, Write, Transmit, Flush, Cancel, Foreground, ReadVerdict, WriteVerdict, SettingsVerdict, Answer}
+use Rattle.secrecy.specs.Types.{Settings, Event, Good, Parity, Framing, Break, Tick, Hangup, Call, Set, Receive, Read, Write, Transmit, Flush}
+use Rattle.secrecy.specs.Types.{Cancel, Foreground, ReadVerdict, WriteVerdict, SettingsVerdict, Answer}
 use Rattle.rules.specs.Sizes.{Sizes, State}
 use Rattle.rules.specs.Refusals.{Reply}
 use Rattle.rules.specs.Received.{step1}

@@ -6,7 +6,8 @@ use mathlib.Core.Path.{_≡_}
 use mathlib.Core.Bool.{false}
 use mathlib.Core.List.{List, [], _∷_}
 use lib.ListN.{getD}
-use Rattle.secrecy.specs.Types.{Settings, Good, Parity, Call, Set, Receive, Read, Write, Transmit, Flush, Cancel, Foreground, ReadVerdict, WriteVerdict, SettingsVerdict}
+use Rattle.secrecy.specs.Types.{Settings, Good, Parity, Call, Set, Receive, Read, Write, Transmit, Flush, Cancel, Foreground, ReadVerdict}
+use Rattle.secrecy.specs.Types.{WriteVerdict, SettingsVerdict}
 use Rattle.rules.specs.Sizes.{Sizes, State}
 use Rattle.rules.specs.Settings.{elem, characters, enabledOf}
 use Rattle.rules.specs.Refusals.{Reply}

@@ -26,19 +26,19 @@ use Rattle.rules.proofs.Handed.{HandsNone, none-handed}
 use Rattle.port.specs.State.{sizes, get}
 use Rattle.port.specs.declared.Port.{Port}
 use Rattle.port.specs.declared.Answered.{Answered}
-use Rattle.lines.specs.Lines.{lineOf}
-use Rattle.texts.specs.Puts.{Prints}
+use Rattle.records.specs.lines.Lines.{lineOf}
+use Rattle.records.specs.lines.Puts.{Prints}
 use Rattle.records.specs.Records.{Decodes, lentOf, meant, told}
 use Rattle.records.specs.declared.Decoded.{Decoded}
 use Rattle.records.specs.declared.Decoded.the-variants.{WellFormed, Malformed}
 use Rattle.discipline.specs.Contract.{Held, Exact, Stepped, held}
 use Rattle.discipline.proofs.Promises.{one-exact}
-use Rattle.texts.proofs.Front.{prints-unique}
+use Rattle.records.proofs.lines.Front.{prints-unique}
 use Rattle.trace.specs.Contract.{answeredOf, givenOf, lentFrom, Exactly, Carries, Records}
 use Rattle.trace.specs.declared.Recorded.{Recorded}
 use Rattle.trace.specs.declared.Carried.{Carried}
-use Rattle.asking.specs.Asking.{Asked}
-use Rattle.asking.proofs.Laws.{asked-of}
+use Rattle.rules.specs.asking.Asking.{Asked}
+use Rattle.rules.proofs.asking.Laws.{asked-of}
 
 ---- load
 
@@ -170,7 +170,8 @@ module _ (p : Port) (bs ms os : List ℕ) (kind : ℕ) (body : List ℕ) (d : De
         omega (arith, as-long, bounds .few)
 
     -- the call as the record asks for it
-    made : (l m l′ bs′ ms′ os′ : List ℕ) (r : Answered) (a : Answer) → m ≡ take (min n (min (length body) (length l))) body ++ drop (min n (min (length body) (length l))) l
+    made : (l m l′ bs′ ms′ os′ : List ℕ) (r : Answered) (a : Answer)
+        → m ≡ take (min n (min (length body) (length l))) body ++ drop (min n (min (length body) (length l))) l
         → r .answer ≡ a → Exact p (held bs ms os (take n m)) call r (held bs′ ms′ os′ l′)
         → Exactly (decode kind body) p bs ms os l body a (r .port) bs′ ms′ os′
     made l m l′ bs′ ms′ os′ r a lm ea x =
@@ -206,7 +207,8 @@ module _ (p : Port) (bs ms os : List ℕ) (kind : ℕ) (body : List ℕ) (d : De
           upto =
               omega (arith, long, ap length whole, length-append (handed reply) (drop (length (handed reply)) (take n m) ++ drop n m));
           now = record { state = s .now .state ∙ ap (λ (y : State × Reply). y .0) same; sizes = s .now .sizes };
-          exact = made l m l′ bs′ ms′ os′ r (answeredOf p bs ms os kind body .1 .answer) lm (s .answer ∙ ap (λ (y : State × Reply). y .1 .answer) same) (s .exact);
+          exact = made l m l′ bs′ ms′ os′ r (answeredOf p bs ms os kind body .1 .answer) lm (s .answer ∙ ap (λ (y : State × Reply). y .1 .answer) same)
+              (s .exact);
         }
 
 ---- record
@@ -244,6 +246,7 @@ pub one-record : (p : Port) (bs ms os : List ℕ) (index kind : ℕ) (body l : L
     → (r ≡ q) × (bs′ ≡ cs) × (ms′ ≡ ns) × (os′ ≡ qs) × (l′ ≡ k)
 one-record p bs ms os index kind body l r q bs′ ms′ os′ l′ cs ns qs k h j =
     let s =
-    one-exactly (decode kind body) p bs ms os (replicate 2048 0) body (answeredOf p bs ms os kind body .1 .answer) (r .port) (q .port) bs′ ms′ os′ cs ns qs (h .exact) (j .exact) in
+    one-exactly (decode kind body) p bs ms os (replicate 2048 0) body (answeredOf p bs ms os kind body .1 .answer) (r .port) (q .port) bs′ ms′ os′ cs ns qs
+    (h .exact) (j .exact) in
     let t = prints-unique (r .length) (q .length) l′ k (h .line) (j .line) in
     (ap₂ (λ (y : Port) (n : ℕ). record { port = y; length = n }) (s .0) (t .0), s .1, s .2, s .3, t .1)

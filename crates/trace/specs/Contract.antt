@@ -5,15 +5,17 @@ use mathlib.Core.List.{List, _++_}
 use lib.ListN.{length, take, drop, replicate}
 use Rattle.rules.specs.declared.Answer.{Answer}
 use Rattle.rules.specs.declared.Call.{Call}
-use Rattle.rules.specs.declared.Call.the-variants.{Set, Receive, Read, Write, Transmit, Flush, Cancel, Foreground, ReadVerdict, WriteVerdict, SettingsVerdict}
+use Rattle.rules.specs.declared.Call.the-variants.{Set, Receive, Read, Write, Transmit, Flush, Cancel, Foreground, ReadVerdict, WriteVerdict}
+use Rattle.rules.specs.declared.Call.the-variants.{SettingsVerdict}
+use Rattle.rules.specs.Lent.{Lent, before, after}
 use Rattle.rules.specs.Sizes.{State}
 use Rattle.rules.specs.Refusals.{Reply, handed}
 use Rattle.rules.specs.Trace.{decode, answered, line, wellFormed, malformed}
 use Rattle.rules.specs.Trace as trace
 use Rattle.port.specs.State.{sizes, get}
 use Rattle.port.specs.declared.Port.{Port}
-use Rattle.texts.specs.Puts.{Prints}
-use Rattle.calling.specs.Contract.{Now}
+use Rattle.records.specs.lines.Puts.{Prints}
+use Rattle.port.specs.Calls.{Now}
 use Rattle.discipline.specs.Contract.{Exact, held}
 use Rattle.trace.specs.declared.Carried.{Carried}
 use Rattle.trace.specs.declared.Recorded.{Recorded}
@@ -36,10 +38,13 @@ givenOf (ReadVerdict p) n = 0
 givenOf (WriteVerdict p) n = 0
 givenOf (SettingsVerdict p) n = 0
 
--- the n bytes lent to a record's call: the first of the body, then those that stood in the buffer l
+-- the buffer l with the first n bytes of the body in it, as far as there are so many and it holds them
+abbrev pub loaded : List ℕ → ℕ → List ℕ → List ℕ
+loaded l n body = take (min n (min (length body) (length l))) body ++ drop (min n (min (length body) (length l))) l
+
+-- the n bytes lent to a record's call
 abbrev pub lentFrom : List ℕ → ℕ → List ℕ → List ℕ
-lentFrom l n body =
-    take n (take (min n (min (length body) (length l))) body ++ drop (min n (min (length body) (length l))) l)
+lentFrom l n body = take n (loaded l n body)
 
 -- the port and every byte of the slices after the call that a record asks for, with the rules' answer a, and some buffer
 pub record CallMade (p : Port) (bs ms os lent : List ℕ) (call : Call) (a : Answer) (q : Port) (bs′ ms′ os′ : List ℕ) : Type 0 where
@@ -60,8 +65,16 @@ pub record Carries (p : Port) (bs ms os : List ℕ) (kind : ℕ) (body l : List 
   pub now : Now p bs ms os (answeredOf p bs ms os kind body .0) (r .port) bs′ ms′ os′
   pub exact : Exactly (decode kind body) p bs ms os l body (answeredOf p bs ms os kind body .1 .answer) (r .port) bs′ ms′ os′
 
+abbrev pub CarriesLent : Port → Lent → Lent → Lent → ℕ → Lent → Lent → Carried → Type 0
+CarriesLent p bytes marks out kind body lent r =
+    Carries p (before bytes) (before marks) (before out) kind (before body) (before lent) r (after bytes) (after marks) (after out) (after lent)
+
 -- its line, as much of it as the buffer l holds; the record is carried out with a buffer of zeros
 pub record Records (p : Port) (bs ms os : List ℕ) (index kind : ℕ) (body l : List ℕ) (r : Recorded) (bs′ ms′ os′ l′ : List ℕ) : Type 0 where
   pub line : Prints l (line index kind (answeredOf p bs ms os kind body .1)) (r .length) l′
   pub now : Now p bs ms os (answeredOf p bs ms os kind body .0) (r .port) bs′ ms′ os′
   pub exact : Exactly (decode kind body) p bs ms os (replicate 2048 0) body (answeredOf p bs ms os kind body .1 .answer) (r .port) bs′ ms′ os′
+
+abbrev pub RecordsLent : Port → Lent → Lent → Lent → ℕ → ℕ → Lent → Lent → Recorded → Type 0
+RecordsLent p bytes marks out index kind body line r =
+    Records p (before bytes) (before marks) (before out) index kind (before body) (before line) r (after bytes) (after marks) (after out) (after line)

@@ -1,11 +1,15 @@
 // Document 01, 'The trace program': one record carried out on a port, and its line.
+pub mod gathering;
+pub mod stream;
+
 ghost use mathlib.Core.Path.{_≡_};
-ghost use mathlib.Core.List.{_++_};
-ghost use Prim.Native.Nat.{_≤_, min};
-ghost use lib.ListN.{length, take, drop};
-ghost use Rattle.trace.specs.Contract.{Carries, Records, givenOf};
+ghost use Prim.Native.Nat.{_≤_};
+ghost use lib.ListN.{length};
+ghost use Rattle.rules.specs.Lent.{before, after};
+ghost use Rattle.trace.specs.Contract.{givenOf, CarriesLent, RecordsLent, loaded};
 use port::Port;
 use records::Decoded;
+use records::lines;
 use rules::Answer;
 use rules::Call;
 use rules::Outcome;
@@ -26,10 +30,10 @@ pub struct Recorded {
 
 // the first n bytes of the body stand first in the buffer
 fn load(lent: &mut [u8], body: &[u8], n: usize)
-    ensures { λ _. ⌜ now (lent .exit) ≡ take (min n (min (length (now (body .entry))) (length (now (lent .entry))))) (now (body .entry)) ++ drop (min n (min (length (now (body .entry))) (length (now (lent .entry))))) (now (lent .entry)) ⌝ }
+    ensures { λ _. ⌜ after lent ≡ loaded (before lent) n (before body) ⌝ }
 {
-    let most = numbers::least(body.len(), lent.len());
-    let k = numbers::least(n, most);
+    let most = queue::least(body.len(), lent.len());
+    let k = queue::least(n, most);
     let mut i = 0;
     while i < k {
         lent[i] = body[i];
@@ -67,7 +71,7 @@ fn carry(
     lent: &mut [u8],
 ) -> Carried
     requires { ⌜ 2048 ≤ length (now lent) ⌝ }
-    ensures { λ r. ⌜ Carries p (now (bytes .entry)) (now (marks .entry)) (now (out .entry)) kind (now (body .entry)) (now (lent .entry)) r (now (bytes .exit)) (now (marks .exit)) (now (out .exit)) (now (lent .exit)) ⌝ }
+    ensures { λ r. ⌜ CarriesLent p bytes marks out kind body lent r ⌝ }
 {
     let d = records::decode(kind, body);
     let Decoded::WellFormed { call, lent: n } = d else {
@@ -103,7 +107,7 @@ pub fn record(
     body: &[u8],
     line: &mut [u8],
 ) -> Recorded
-    ensures { λ r. ⌜ Records p (now (bytes .entry)) (now (marks .entry)) (now (out .entry)) index kind (now (body .entry)) (now (line .entry)) r (now (bytes .exit)) (now (marks .exit)) (now (out .exit)) (now (line .exit)) ⌝ }
+    ensures { λ r. ⌜ RecordsLent p bytes marks out index kind body line r ⌝ }
 {
     let mut lent = [0u8; 2048];
     let c = carry(p, bytes, marks, out, kind, body, &mut lent);

@@ -2,11 +2,12 @@
 // written is decided in `feeding` and `stream`.
 ghost use mathlib.Core.Path.{_≡_};
 ghost use mathlib.Core.Bool.{true};
-ghost use Rattle.feeding.specs.Pieces.{Passes};
+ghost use Rattle.trace.specs.stream.Pieces.{PassesLent};
 use libc::STDIN_FILENO;
 use libc::STDOUT_FILENO;
 use port::Port;
-use stream::Stream;
+use trace::stream;
+use trace::stream::Stream;
 
 // The stream after a piece, and whether every line was written.
 struct Passed {
@@ -23,13 +24,13 @@ fn pass(
     kept: &mut [u8; Stream::KEPT],
     piece: &[u8],
 ) -> Passed
-    ensures { λ r. ⌜ (r .written ≡ true → Passes g (now (bytes .entry)) (now (marks .entry)) (now (out .entry)) (now (kept .entry)) (now (piece .entry)) (r .stream) (now (bytes .exit)) (now (marks .exit)) (now (out .exit)) (now (kept .exit))) ⌝ }
+    ensures { λ r. ⌜ (r .written ≡ true → PassesLent g bytes marks out kept piece (r .stream)) ⌝ }
 {
     let mut line = [0u8; Stream::LINE];
     let mut s = g;
     let mut at = 0;
     while at < piece.len() {
-        let f = feeding::feed(s, bytes, marks, out, kept, &piece[at..], &mut line);
+        let f = stream::feed(s, bytes, marks, out, kept, &piece[at..], &mut line);
         let n = f.length;
         let is_written = io::write_all(STDOUT_FILENO, &line[..n]);
         s = f.stream;

@@ -15,9 +15,11 @@ and-requires-2 c κs = search needs
 
 returns : tie.Need-returns
 returns c =
-    let s = c .before .before .before .before in
+    let at-if1 = c .before .before .if1 in
     let v = c .before .before .before .visible in
-    measured-pair (s .args .x) (s .args .m) (s .args .b) (v .result) (v .ensures) (c .before .and .result) (c .and2 .result) (c .before .before .if1 .taken) (c .before .and .ensures) (c .and2 .ensures)
+    let s = c .before .before .before .before in
+    measured-pair (s .args .x) (s .args .m) (s .args .b) (v .result) (v .ensures) (c .before .and .result) (c .and2 .result) (at-if1 .taken)
+    (c .before .and .ensures) (c .and2 .ensures)
 
 and-requires-3 : tie.Need-and-requires-3
 and-requires-3 c κs = search needs

@@ -13,13 +13,22 @@ same-length : tie.Need-same-length
 same-length c = search needs
 
 returns : tie.Need-returns
-returns c = shows-as (c .before .before .before .before .before .before .args .x) (c .before .before .before .before .before .before .args .o) (c .before .before .show .result) (c .before .before .before .before .before .before .args .out .now) (c .before .before .show .last .1 .1 .0) (visible (c .before .before .before .before .before .before .args .x) (c .before .before .before .before .before .before .args .b)) (echoOf (c .before .before .before .before .before .before .args .x) (c .before .before .before .before .before .before .args .b)) (echo-set (c .before .before .before .before .before .before .args .x) (c .before .before .before .before .before .before .args .b) (c .before .before .before .before .if1 .taken)) (c .before .before .show .ensures)
+returns c =
+    let at-show = c .before .before .show in
+    let at-if1 = c .before .before .before .before .if1 in
+    let start = c .before .before .before .before .before .before in
+    shows-as (start .args .x) (start .args .o) (at-show .result) (start .args .out .now) (at-show .last .1 .1 .0) (visible (start .args .x) (start .args .b))
+    (echoOf (start .args .x) (start .args .b)) (echo-set (start .args .x) (start .args .b) (at-if1 .taken)) (at-show .ensures)
 
 fit-requires : tie.Need-fit-requires
 fit-requires c κs = search needs
 
 returns-2 : tie.Need-returns-2
-returns-2 c = shows-as (c .before .before .before .args .x) (c .before .before .before .args .o) (c .fit .result) (c .before .before .before .args .out .now) (c .before .before .before .args .out .now) [] (echoOf (c .before .before .before .args .x) (c .before .before .before .args .b)) (echo-clear (c .before .before .before .args .x) (c .before .before .before .args .b) (c .before .if1 .left)) (shows-none (c .before .before .before .args .x) (c .before .before .before .args .o) (c .fit .result) (c .before .before .before .args .out .now) (c .fit .ensures))
+returns-2 c =
+    let start = c .before .before .before in
+    shows-as (start .args .x) (start .args .o) (c .fit .result) (start .args .out .now) (start .args .out .now) [] (echoOf (start .args .x) (start .args .b))
+    (echo-clear (start .args .x) (start .args .b) (c .before .if1 .left))
+    (shows-none (start .args .x) (start .args .o) (c .fit .result) (start .args .out .now) (c .fit .ensures))
 
 pub of-byte-spec : {M : Type 1} → statement M
 of-byte-spec = tie.close (tie.spec show-requires same-length returns fit-requires returns-2)

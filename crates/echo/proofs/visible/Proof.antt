@@ -17,10 +17,19 @@ add-t5 : tie.Need-add-t5
 add-t5 c = search needs
 
 returns-4 : tie.Need-returns-4
-returns-4 c = visible-caret (c .before .before .before .before .before .args .x) (c .before .before .before .before .before .args .b) (c .before .before .before .before .if1 .taken) (c .before .before .before .if2 .left) (c .before .before .if3 .left) (c .before .if4 .left) (c .if5 .taken)
+returns-4 c =
+    let at-if3 = c .before .before .if3 in
+    let at-if2 = c .before .before .before .if2 in
+    let at-if1 = c .before .before .before .before .if1 in
+    let start = c .before .before .before .before .before in
+    visible-caret (start .args .x) (start .args .b) (at-if1 .taken) (at-if2 .left) (at-if3 .left) (c .before .if4 .left) (c .if5 .taken)
 
 returns-5 : tie.Need-returns-5
-returns-5 c = visible-plain (c .before .before .before .before .before .args .x) (c .before .before .before .before .before .args .b) (c .before .before .before .before .if1 .taken) (c .before .before .before .if2 .left) (c .if5 .left)
+returns-5 c =
+    let at-if2 = c .before .before .before .if2 in
+    let at-if1 = c .before .before .before .before .if1 in
+    let start = c .before .before .before .before .before in
+    visible-plain (start .args .x) (start .args .b) (at-if1 .taken) (at-if2 .left) (c .if5 .left)
 
 returns-6 : tie.Need-returns-6
 returns-6 c = rw (c .if1 .left)

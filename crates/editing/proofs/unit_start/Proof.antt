@@ -30,10 +30,13 @@ starts-requires c κs = search needs
 
 returns : tie.Need-returns Inv-loop μ-loop
 returns c =
+    let at-at = c .before .before .at in
+    let at-loop = c .before .before .before .before .before .loop in
     let s = c .before .before .before .before .before .before .before .before in
-    let at = c .before .before .before .before .before .loop .at in
-    seek-end (s .args .i) (s .args .marks .now) (s .args .end) at (s .pre .0) (c .before .before .before .before .before .loop .inv)
-    (inl (asked-start (c .before .before .at .result) (getD (held (s .args .i .queue) (s .args .marks .now)) at 0) (c .before .starts .result) true (c .before .before .at .ensures) (c .before .starts .ensures) (c .if2 .taken)))
+    let at = at-loop .at in
+    seek-end (s .args .i) (s .args .marks .now) (s .args .end) at (s .pre .0) (at-loop .inv)
+    (inl (asked-start (at-at .result) (getD (held (s .args .i .queue) (s .args .marks .now)) at 0) (c .before .starts .result) true (at-at .ensures)
+    (c .before .starts .ensures) (c .if2 .taken)))
 
 sub-at-2 : tie.Need-sub-at-2 Inv-loop μ-loop
 sub-at-2 c = omega (arith, c .before .before .before .if1 .taken)
@@ -43,15 +46,20 @@ loop-less c = omega (arith, c .before .before .before .if1 .taken)
 
 loop-again : tie.Need-loop-again Inv-loop μ-loop
 loop-again c =
+    let at-at = c .before .before .at in
+    let at-if1 = c .before .before .before .if1 in
+    let at-loop = c .before .before .before .before .before .loop in
     let s = c .before .before .before .before .before .before .before .before in
-    let at = c .before .before .before .before .before .loop .at in
-    seek-next (s .args .i) (s .args .marks .now) (s .args .end) at (c .before .before .before .before .before .loop .inv) (c .before .before .before .if1 .taken)
-    (asked-start (c .before .before .at .result) (getD (held (s .args .i .queue) (s .args .marks .now)) at 0) (c .before .starts .result) false (c .before .before .at .ensures) (c .before .starts .ensures) (c .if2 .left))
+    let at = at-loop .at in
+    seek-next (s .args .i) (s .args .marks .now) (s .args .end) at (at-loop .inv) (at-if1 .taken)
+    (asked-start (at-at .result) (getD (held (s .args .i .queue) (s .args .marks .now)) at 0) (c .before .starts .result) false (at-at .ensures)
+    (c .before .starts .ensures) (c .if2 .left))
 
 returns-2 : tie.Need-returns-2 Inv-loop μ-loop
 returns-2 c =
+    let at-loop = c .before .before .loop in
     let s = c .before .before .before .before .before in
-    seek-end (s .args .i) (s .args .marks .now) (s .args .end) (c .before .before .loop .at) (s .pre .0) (c .before .before .loop .inv) (inr (le-antisymm (c .if1 .left) (c .before .before .loop .inv .low)))
+    seek-end (s .args .i) (s .args .marks .now) (s .args .end) (at-loop .at) (s .pre .0) (at-loop .inv) (inr (le-antisymm (c .if1 .left) (at-loop .inv .low)))
 
 pub unit-start-spec : {M : Type 1} → statement M
 unit-start-spec =

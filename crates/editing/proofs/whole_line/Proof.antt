@@ -27,20 +27,26 @@ unit-start-requires c κs =
     (record { within = s .pre; low = inv .low; high = omega (arith, inv .fewer) }, c .if1 .taken)
 
 add-count : tie.Need-add-count Inv-loop μ-loop
-add-count c = omega (arith, c .before .before .before .loop .inv (c .before .before .before .before .before .before .args .marks .now) refl .fewer, c .before .if1 .taken, c .before .before .before .before .before .before .pre .len)
+add-count c =
+    let at-loop = c .before .before .before .loop in
+    let start = c .before .before .before .before .before .before in
+    omega (arith, at-loop .inv (start .args .marks .now) refl .fewer, c .before .if1 .taken, start .pre .len)
 
 loop-less : tie.Need-loop-less Inv-loop μ-loop
 loop-less c = omega (arith, c .unit-start .ensures .high)
 
 loop-again : tie.Need-loop-again Inv-loop μ-loop
 loop-again c =
+    let at-loop = c .before .before .before .loop in
     let s = c .before .before .before .before .before .before in
-    λ bs e. walk-next (s .args .i) bs (s .args .marks .now) (s .args .i .queue .len) (λ u. true) e (c .before .before .before .loop .begin) (c .before .before .before .loop .count) (c .before .before .before .loop .inv bs e) (c .unit-start .result) (c .unit-start .ensures) refl
+    λ bs e. walk-next (s .args .i) bs (s .args .marks .now) (s .args .i .queue .len) (λ u. true) e (at-loop .begin) (at-loop .count) (at-loop .inv bs e)
+    (c .unit-start .result) (c .unit-start .ensures) refl
 
 returns : tie.Need-returns Inv-loop μ-loop
 returns c =
+    let at-loop = c .before .before .loop in
     let s = c .before .before .before .before .before in
-    whole-of (s .args .i) (s .args .marks .now) (c .before .before .loop .begin) (c .before .before .loop .count) (s .pre) (c .if1 .left) (c .before .before .loop .inv)
+    whole-of (s .args .i) (s .args .marks .now) (at-loop .begin) (at-loop .count) (s .pre) (c .if1 .left) (at-loop .inv)
 
 pub whole-line-spec : {M : Type 1} → statement M
 whole-line-spec =

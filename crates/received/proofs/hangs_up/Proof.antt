@@ -2,8 +2,8 @@
 use Rattle.rules.specs.declared.Signal.the-variants.{Hup}
 use Rattle.rules.specs.Flushing.{flushBoth}
 use Rattle.rules.specs.Received.{reported, hungUp}
-use Rattle.assembling.specs.Contract.{state}
-use Rattle.received.proofs.Laws.{reports-of, hung-up}
+use Rattle.port.specs.Layers.{state}
+use Rattle.received.proofs.Events.{reports-of, hung-up}
 use borrow.Author.Needs.{needs}
 use Rattle.received.proofs.hangs_up.Statement.{statement}
 use Rattle.received.proofs.hangs_up.Tie as tie
@@ -19,10 +19,14 @@ reports-requires c κs = search needs
 
 returns : tie.Need-returns
 returns c =
+    let at-flush-both = c .before .before .flush-both in
+    let start = c .before .before .before .before in
     λ bs ms eb em.
-    let p = (c .before .before .before .before .args .p) in
-    let os = (c .before .before .before .before .args .out .now) in
-    reports-of p (c .before .hung-up .result) bs ms os bs ms os (hungUp (flushBoth (state p bs ms os))) (reported Hup (p .foreground)) (c .reports .result) (c .reports .ensures) (hung-up p (c .before .before .flush-both .result) (c .before .hung-up .result) ((c .before .before .before .before .args .n)) os (c .before .before .flush-both .ensures) (c .before .hung-up .ensures) bs ms eb em)
+    let p = (start .args .p) in
+    let os = (start .args .out .now) in
+    reports-of p (c .before .hung-up .result) bs ms os bs ms os (hungUp (flushBoth (state p bs ms os))) (reported Hup (p .foreground)) (c .reports .result)
+    (c .reports .ensures) (hung-up p (at-flush-both .result) (c .before .hung-up .result) (start .args .n) os (at-flush-both .ensures)
+    (c .before .hung-up .ensures) bs ms eb em)
 
 pub hangs-up-spec : {M : Type 1} → statement M
 hangs-up-spec = tie.close (tie.spec flush-both-requires hung-up-requires reports-requires returns)

@@ -3,9 +3,9 @@ use mathlib.Core.Path.{refl, sym}
 use Rattle.rules.specs.Sizes.{withWaiting}
 use Rattle.rules.specs.Received.{lowered}
 use lib.ListN.{length}
-use Rattle.assembling.specs.Contract.{sizesOf, state}
-use Rattle.assembling.proofs.Laws.{stays}
-use Rattle.received.proofs.Laws.{quiet-of, happens, ticked}
+use Rattle.port.specs.Layers.{sizesOf, state}
+use Rattle.port.proofs.Layers.{stays}
+use Rattle.received.proofs.Events.{quiet-of, happens, ticked}
 use borrow.Author.Needs.{needs}
 use Rattle.received.proofs.received.Statement.{statement}
 use Rattle.received.proofs.received.Tie as tie
@@ -57,12 +57,15 @@ hangs-up-requires c κs = search needs
 
 returns : tie.Need-returns
 returns c =
-    let p = (c .before .before .before .before .before .before .before .args .p) in
-    let bs = (c .before .before .before .before .before .before .before .args .bytes .now) in
-    let ms = (c .before .before .before .before .before .before .before .args .marks .now) in
-    let os = (c .before .before .before .before .before .before .before .args .out .now) in
+    let at-arrives = c .before .before .before .arrives in
+    let start = c .before .before .before .before .before .before .before in
+    let p = (start .args .p) in
+    let bs = (start .args .bytes .now) in
+    let ms = (start .args .marks .now) in
+    let os = (start .args .out .now) in
     let z = sizesOf p (length bs) (length os) in
-    happens p bs ms os bs ms os z (c .before .before .before .before .before .before .before .args .e) (c .quiet .result) (c .before .before .before .arrives .ensures) (c .before .enum-told .given .1) (quiet-of p p bs ms os bs ms os (state p bs ms os) (c .quiet .result) (c .quiet .ensures) (stays p bs ms os (c .before .before .before .before .before .before .before .pre)))
+    happens p bs ms os bs ms os z (start .args .e) (c .quiet .result) (at-arrives .ensures) (c .before .enum-told .given .1)
+    (quiet-of p p bs ms os bs ms os (state p bs ms os) (c .quiet .result) (c .quiet .ensures) (stays p bs ms os (start .pre)))
 
 same-length : tie.Need-same-length
 same-length c = search needs
@@ -75,12 +78,18 @@ same-length-3 c = search needs
 
 returns-2 : tie.Need-returns-2
 returns-2 c =
-    let p = (c .before .before .before .before .before .before .before .before .before .before .before .before .before .before .before .before .before .args .p) in
-    let bs = (c .before .before .before .before .before .before .before .before .before .before .before .before .before .before .before .before .before .args .bytes .now) in
-    let ms = (c .before .before .before .before .before .before .before .before .before .before .before .before .before .before .before .before .before .args .marks .now) in
-    let os = (c .before .before .before .before .before .before .before .before .before .before .before .before .before .before .before .before .before .args .out .now) in
+    let back = c .before .before .before .before .before .before .before .before .before .before .before .before in
+    let at-good2 = c .before .before .before .before .before .before .good2 in
+    let at-a = c .before .before .before .before .before .before .before .before .before .before .before .a in
+    let at-arrives = back .before .arrives in
+    let start = back .before .before .before .before .before in
+    let p = (start .args .p) in
+    let bs = (start .args .bytes .now) in
+    let ms = (start .args .marks .now) in
+    let os = (start .args .out .now) in
     let z = sizesOf p (length bs) (length os) in
-    happens p bs ms os (c .before .before .before .before .before .before .good2 .last .1 .0) (c .before .before .before .before .before .before .good2 .last .1 .1 .0) (c .before .before .before .before .before .before .good2 .last .1 .1 .1 .0) z (c .before .before .before .before .before .before .before .before .before .before .before .before .before .before .before .before .before .args .e) (c .before .before .before .before .before .before .good2 .result) (c .before .before .before .before .before .before .before .before .before .before .before .before .before .arrives .ensures) (c .before .before .before .before .before .before .before .before .before .before .before .a .given .1) (c .before .before .before .before .before .before .good2 .ensures)
+    happens p bs ms os (at-good2 .last .1 .0) (at-good2 .last .1 .1 .0) (at-good2 .last .1 .1 .1 .0) z (start .args .e) (at-good2 .result)
+    (at-arrives .ensures) (at-a .given .1) (at-good2 .ensures)
 
 same-length-4 : tie.Need-same-length-4
 same-length-4 c = search needs
@@ -93,45 +102,65 @@ same-length-6 c = search needs
 
 returns-3 : tie.Need-returns-3
 returns-3 c =
-    let p = (c .before .before .before .before .before .before .before .before .before .before .before .before .before .before .before .before .before .before .args .p) in
-    let bs = (c .before .before .before .before .before .before .before .before .before .before .before .before .before .before .before .before .before .before .args .bytes .now) in
-    let ms = (c .before .before .before .before .before .before .before .before .before .before .before .before .before .before .before .before .before .before .args .marks .now) in
-    let os = (c .before .before .before .before .before .before .before .before .before .before .before .before .before .before .before .before .before .before .args .out .now) in
+    let back = c .before .before .before .before .before .before .before .before .before .before .before .before in
+    let at-silently = c .before .before .before .before .before .before .before .silently in
+    let at-a2 = c .before .before .before .before .before .before .before .before .before .before .before .before .a2 in
+    let at-arrives = back .before .before .arrives in
+    let start = back .before .before .before .before .before .before in
+    let p = (start .args .p) in
+    let bs = (start .args .bytes .now) in
+    let ms = (start .args .marks .now) in
+    let os = (start .args .out .now) in
     let z = sizesOf p (length bs) (length os) in
-    happens p bs ms os (c .before .before .before .before .before .before .before .silently .last .1 .0) (c .before .before .before .before .before .before .before .silently .last .1 .1 .0) (c .before .before .before .before .before .before .before .silently .last .1 .1 .1 .0) z (c .before .before .before .before .before .before .before .before .before .before .before .before .before .before .before .before .before .before .args .e) (c .quiet2 .result) (c .before .before .before .before .before .before .before .before .before .before .before .before .before .before .arrives .ensures) (c .before .before .before .before .before .before .before .before .before .before .before .before .a2 .given .1) (quiet-of p (c .before .before .before .before .before .before .before .silently .result) bs ms os (c .before .before .before .before .before .before .before .silently .last .1 .0) (c .before .before .before .before .before .before .before .silently .last .1 .1 .0) (c .before .before .before .before .before .before .before .silently .last .1 .1 .1 .0) _ (c .quiet2 .result) (c .quiet2 .ensures) (c .before .before .before .before .before .before .before .silently .ensures))
+    happens p bs ms os (at-silently .last .1 .0) (at-silently .last .1 .1 .0) (at-silently .last .1 .1 .1 .0) z (start .args .e) (c .quiet2 .result)
+    (at-arrives .ensures) (at-a2 .given .1) (quiet-of p (at-silently .result) bs ms os (at-silently .last .1 .0) (at-silently .last .1 .1 .0)
+    (at-silently .last .1 .1 .1 .0) _ (c .quiet2 .result) (c .quiet2 .ensures) (at-silently .ensures))
 
 same-length-7 : tie.Need-same-length-7
 same-length-7 c = search needs
 
 returns-4 : tie.Need-returns-4
 returns-4 c =
-    let p = (c .before .before .before .before .before .before .before .before .args .p) in
-    let bs = (c .before .before .before .before .before .before .before .before .args .bytes .now) in
-    let ms = (c .before .before .before .before .before .before .before .before .args .marks .now) in
-    let os = (c .before .before .before .before .before .before .before .before .args .out .now) in
+    let at-enum-told2 = c .before .before .enum-told2 in
+    let at-arrives = c .before .before .before .before .arrives in
+    let start = c .before .before .before .before .before .before .before .before in
+    let p = (start .args .p) in
+    let bs = (start .args .bytes .now) in
+    let ms = (start .args .marks .now) in
+    let os = (start .args .out .now) in
     let z = sizesOf p (length bs) (length os) in
-    happens p bs ms os bs ms os z (c .before .before .before .before .before .before .before .before .args .e) (c .interrupts .result) (c .before .before .before .before .arrives .ensures) (c .before .before .enum-told2 .given .1) ((c .interrupts .ensures) bs ms refl (sym (c .before .before .before .before .before .before .before .before .pre .same)))
+    happens p bs ms os bs ms os z (start .args .e) (c .interrupts .result) (at-arrives .ensures) (at-enum-told2 .given .1)
+    ((c .interrupts .ensures) bs ms refl (sym (start .pre .same)))
 
 returns-5 : tie.Need-returns-5
 returns-5 c =
-    let p = (c .before .before .before .before .before .before .before .before .args .p) in
-    let bs = (c .before .before .before .before .before .before .before .before .args .bytes .now) in
-    let ms = (c .before .before .before .before .before .before .before .before .args .marks .now) in
-    let os = (c .before .before .before .before .before .before .before .before .args .out .now) in
+    let at-enum-told3 = c .before .before .enum-told3 in
+    let at-arrives = c .before .before .before .before .arrives in
+    let start = c .before .before .before .before .before .before .before .before in
+    let p = (start .args .p) in
+    let bs = (start .args .bytes .now) in
+    let ms = (start .args .marks .now) in
+    let os = (start .args .out .now) in
     let z = sizesOf p (length bs) (length os) in
-    happens p bs ms os bs ms os z (c .before .before .before .before .before .before .before .before .args .e) (c .quiet3 .result) (c .before .before .before .before .arrives .ensures) (c .before .before .enum-told3 .given .1) (quiet-of p (c .before .ticks .result) bs ms os bs ms os (withWaiting (state p bs ms os) (lowered (p .waiting))) (c .quiet3 .result) (c .quiet3 .ensures) (ticked p (c .before .ticks .result) bs ms os (c .before .before .before .before .before .before .before .before .pre) (c .before .ticks .ensures)))
+    happens p bs ms os bs ms os z (start .args .e) (c .quiet3 .result) (at-arrives .ensures) (at-enum-told3 .given .1)
+    (quiet-of p (c .before .ticks .result) bs ms os bs ms os (withWaiting (state p bs ms os) (lowered (p .waiting))) (c .quiet3 .result) (c .quiet3 .ensures)
+    (ticked p (c .before .ticks .result) bs ms os (start .pre) (c .before .ticks .ensures)))
 
 same-length-8 : tie.Need-same-length-8
 same-length-8 c = search needs
 
 returns-6 : tie.Need-returns-6
 returns-6 c =
-    let p = (c .before .before .before .before .before .before .before .before .args .p) in
-    let bs = (c .before .before .before .before .before .before .before .before .args .bytes .now) in
-    let ms = (c .before .before .before .before .before .before .before .before .args .marks .now) in
-    let os = (c .before .before .before .before .before .before .before .before .args .out .now) in
+    let at-enum-told4 = c .before .before .enum-told4 in
+    let at-arrives = c .before .before .before .before .arrives in
+    let start = c .before .before .before .before .before .before .before .before in
+    let p = (start .args .p) in
+    let bs = (start .args .bytes .now) in
+    let ms = (start .args .marks .now) in
+    let os = (start .args .out .now) in
     let z = sizesOf p (length bs) (length os) in
-    happens p bs ms os bs ms os z (c .before .before .before .before .before .before .before .before .args .e) (c .hangs-up .result) (c .before .before .before .before .arrives .ensures) (c .before .before .enum-told4 .given .1) ((c .hangs-up .ensures) bs ms refl (sym (c .before .before .before .before .before .before .before .before .pre .same)))
+    happens p bs ms os bs ms os z (start .args .e) (c .hangs-up .result) (at-arrives .ensures) (at-enum-told4 .given .1)
+    ((c .hangs-up .ensures) bs ms refl (sym (start .pre .same)))
 
 pub received-spec : {M : Type 1} → statement M
 received-spec =

@@ -1,7 +1,7 @@
 -- `received::ticks` meets its contract. Assumes nothing.
 use mathlib.Core.Path.{ap, _∙_}
 use Rattle.rules.specs.declared.Waiting.{Waiting}
-use Rattle.assembling.specs.Contract.{assembled}
+use Rattle.port.specs.Layers.{assembled}
 use borrow.Author.Needs.{needs}
 use Rattle.received.proofs.ticks.Statement.{statement}
 use Rattle.received.proofs.ticks.Tie as tie
@@ -13,7 +13,10 @@ assemble-requires : tie.Need-assemble-requires
 assemble-requires c κs = search needs
 
 returns : tie.Need-returns
-returns c = (c .assemble .ensures) ∙ ap (λ (y : Waiting). assembled (c .before .before .before .before .args .p) ((c .before .before .before .before .args .p) .input) ((c .before .before .before .before .args .p) .output) y) (c .before .lowered .ensures)
+returns c =
+    let start = c .before .before .before .before in
+    (c .assemble .ensures) ∙ ap (λ (y : Waiting). assembled (start .args .p) ((start .args .p) .input) ((start .args .p) .output) y)
+    (c .before .lowered .ensures)
 
 pub ticks-spec : {M : Type 1} → statement M
 ticks-spec = tie.close (tie.spec lowered-requires assemble-requires returns)

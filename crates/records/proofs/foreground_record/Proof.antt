@@ -3,7 +3,7 @@ use native.Mathlib.Omega.{arith}
 use borrow.Author.Tests.{eq-eqb, ne-eqb, lt-ltb, le-ltb, lt-leb, le-leb}
 use denote.Ref.{now}
 use lib.ListN.{length, getD}
-use Rattle.bodies.specs.Bodies.{number}
+use Rattle.records.specs.Bodies.{number}
 use Rattle.records.proofs.Bodies.{foreground-by}
 use borrow.Author.Needs.{needs}
 use Rattle.records.proofs.foreground_record.Statement.{statement}

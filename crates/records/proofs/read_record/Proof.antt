@@ -4,7 +4,7 @@ use native.Mathlib.Omega.{arith}
 use borrow.Author.Tests.{eq-eqb, ne-eqb, lt-ltb, le-ltb, lt-leb, le-leb}
 use denote.Ref.{now}
 use lib.ListN.{length, getD, length-replicate}
-use Rattle.bodies.specs.Bodies.{count}
+use Rattle.records.specs.Bodies.{count}
 use Rattle.records.proofs.Bodies.{read-by}
 use borrow.Author.Needs.{needs}
 use Rattle.records.proofs.read_record.Statement.{statement}

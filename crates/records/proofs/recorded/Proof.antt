@@ -15,8 +15,9 @@ settings-of-requires c κs = search needs
 
 returns : tie.Need-returns
 returns c =
+    let start = c .before .before .before in
     c .settings-of .ensures
-    ∙ same-settings (bitOf (c .before .before .before .args .flags)) (c .before .in-places .result) (now (c .before .before .before .args .values)) (c .before .in-places .ensures)
+    ∙ same-settings (bitOf (start .args .flags)) (c .before .in-places .result) (now (start .args .values)) (c .before .in-places .ensures)
 
 pub recorded-spec : {M : Type 1} → statement M
 recorded-spec = tie.close (tie.spec in-places-requires settings-of-requires returns)

@@ -4,7 +4,7 @@ use native.Mathlib.Omega.{arith}
 use borrow.Author.Tests.{eq-eqb, ne-eqb, lt-leb, le-leb}
 use denote.Ref.{now}
 use lib.ListN.{length, length-replicate}
-use Rattle.bodies.specs.Bodies.{count}
+use Rattle.records.specs.Bodies.{count}
 use Rattle.records.proofs.Bodies.{transmit-by}
 use borrow.Author.Needs.{needs}
 use Rattle.records.proofs.transmit_record.Statement.{statement}

@@ -18,36 +18,59 @@ enum-told c = search needs
 
 returns : tie.Need-returns
 returns c =
-    let p = (c .before .before .before .before .before .before .before .before .args .p) in
-    let bs = (c .before .before .before .before .before .before .before .before .args .bytes .now) in
-    let ms = (c .before .before .before .before .before .before .before .before .args .marks .now) in
-    let os = (c .before .before .before .before .before .before .before .before .args .out .now) in
-    let kind = (c .before .before .before .before .before .before .before .before .args .kind) in
-    let body = (c .before .before .before .before .before .before .before .before .args .body .now) in
-    malformed-carried p bs ms os kind body (c .before .before .decode .result) (c .before .before .decode .ensures) ((c .before .before .before .before .before .before .before .before .args .lent .now)) (c .enum-told .given .1)
+    let at-decode = c .before .before .decode in
+    let start = c .before .before .before .before .before .before .before .before in
+    let p = (start .args .p) in
+    let bs = (start .args .bytes .now) in
+    let ms = (start .args .marks .now) in
+    let os = (start .args .out .now) in
+    let kind = (start .args .kind) in
+    let body = (start .args .body .now) in
+    malformed-carried p bs ms os kind body (at-decode .result) (at-decode .ensures) (start .args .lent .now) (c .enum-told .given .1)
 
 load-requires : tie.Need-load-requires
 load-requires c κs = search needs
 
 slice-relend-prefix-step : tie.Need-slice-relend-prefix-step
 slice-relend-prefix-step c =
-    let p = (c .before .before .before .before .before .before .before .before .before .before .before .before .before .before .before .before .args .p) in
-    let bs = (c .before .before .before .before .before .before .before .before .before .before .before .before .before .before .before .before .args .bytes .now) in
-    let ms = (c .before .before .before .before .before .before .before .before .before .before .before .before .before .before .before .before .args .marks .now) in
-    let os = (c .before .before .before .before .before .before .before .before .before .before .before .before .before .before .before .before .args .out .now) in
-    let kind = (c .before .before .before .before .before .before .before .before .before .before .before .before .before .before .before .before .args .kind) in
-    let body = (c .before .before .before .before .before .before .before .before .before .before .before .before .before .before .before .before .args .body .now) in
-    omega (arith, (at-most p bs ms os kind body (c .before .before .before .before .before .before .before .before .before .before .decode .result) (c .before .before .before .before .before .before .before .before .before .before .decode .ensures) ((c .before .before .before .before .before .before .before .before .d .given) .0 .0) ((c .before .before .before .before .before .before .before .before .d .given) .0 .1 .0) (c .before .before .before .before .before .before .before .before .d .given .1)), (c .before .before .before .before .before .load .kept) .0, (c .before .before .before .before .before .before .before .before .before .before .before .before .before .before .before .before .pre))
+    let back = c .before .before .before .before .before .before .before .before .before .before .before .before in
+    let at-load = c .before .before .before .before .before .load in
+    let at-d = c .before .before .before .before .before .before .before .before .d in
+    let at-decode = c .before .before .before .before .before .before .before .before .before .before .decode in
+    let start = back .before .before .before .before in
+    let p = (start .args .p) in
+    let bs = (start .args .bytes .now) in
+    let ms = (start .args .marks .now) in
+    let os = (start .args .out .now) in
+    let kind = (start .args .kind) in
+    let body = (start .args .body .now) in
+    omega (
+      arith,
+      (at-most p bs ms os kind body (at-decode .result) (at-decode .ensures) ((at-d .given) .0 .0) ((at-d .given) .0 .1 .0) (at-d .given .1)),
+      (at-load .kept) .0,
+      (start .pre),
+    )
 
 slice-aggregate-step : tie.Need-slice-aggregate-step
 slice-aggregate-step c =
-    let p = (c .before .before .before .before .before .before .before .before .before .before .before .before .before .before .before .before .before .args .p) in
-    let bs = (c .before .before .before .before .before .before .before .before .before .before .before .before .before .before .before .before .before .args .bytes .now) in
-    let ms = (c .before .before .before .before .before .before .before .before .before .before .before .before .before .before .before .before .before .args .marks .now) in
-    let os = (c .before .before .before .before .before .before .before .before .before .before .before .before .before .before .before .before .before .args .out .now) in
-    let kind = (c .before .before .before .before .before .before .before .before .before .before .before .before .before .before .before .before .before .args .kind) in
-    let body = (c .before .before .before .before .before .before .before .before .before .before .before .before .before .before .before .before .before .args .body .now) in
-    sym (length-take-le ((c .before .before .before .before .before .before .before .before .before .d .given) .0 .1 .0) (c .before .before .before .before .before .before .load .last .0) (omega (arith, (at-most p bs ms os kind body (c .before .before .before .before .before .before .before .before .before .before .before .decode .result) (c .before .before .before .before .before .before .before .before .before .before .before .decode .ensures) ((c .before .before .before .before .before .before .before .before .before .d .given) .0 .0) ((c .before .before .before .before .before .before .before .before .before .d .given) .0 .1 .0) (c .before .before .before .before .before .before .before .before .before .d .given .1)), (c .before .before .before .before .before .before .load .kept) .0, (c .before .before .before .before .before .before .before .before .before .before .before .before .before .before .before .before .before .pre))))
+    let back = c .before .before .before .before .before .before .before .before .before .before .before .before in
+    let at-load = c .before .before .before .before .before .before .load in
+    let at-d = c .before .before .before .before .before .before .before .before .before .d in
+    let at-decode = c .before .before .before .before .before .before .before .before .before .before .before .decode in
+    let start = back .before .before .before .before .before in
+    let p = (start .args .p) in
+    let bs = (start .args .bytes .now) in
+    let ms = (start .args .marks .now) in
+    let os = (start .args .out .now) in
+    let kind = (start .args .kind) in
+    let body = (start .args .body .now) in
+    sym (length-take-le ((at-d .given) .0 .1 .0) (at-load .last .0)
+    (omega (
+      arith,
+      (at-most p bs ms os kind body (at-decode .result) (at-decode .ensures) ((at-d .given) .0 .0) ((at-d .given) .0 .1 .0) (at-d .given .1)),
+      (at-load .kept) .0,
+      (start .pre),
+    )))
 
 step-requires : tie.Need-step-requires
 step-requires c κs = search needs
@@ -69,13 +92,22 @@ same-length-4 c = search needs
 
 returns-2 : tie.Need-returns-2
 returns-2 c =
-    let p = (c .before .before .before .before .before .before .before .before .before .before .before .before .before .before .before .before .before .before .before .before .before .before .before .before .before .before .before .before .before .args .p) in
-    let bs = (c .before .before .before .before .before .before .before .before .before .before .before .before .before .before .before .before .before .before .before .before .before .before .before .before .before .before .before .before .before .args .bytes .now) in
-    let ms = (c .before .before .before .before .before .before .before .before .before .before .before .before .before .before .before .before .before .before .before .before .before .before .before .before .before .before .before .before .before .args .marks .now) in
-    let os = (c .before .before .before .before .before .before .before .before .before .before .before .before .before .before .before .before .before .before .before .before .before .before .before .before .before .before .before .before .before .args .out .now) in
-    let kind = (c .before .before .before .before .before .before .before .before .before .before .before .before .before .before .before .before .before .before .before .before .before .before .before .before .before .before .before .before .before .args .kind) in
-    let body = (c .before .before .before .before .before .before .before .before .before .before .before .before .before .before .before .before .before .before .before .before .before .before .before .before .before .before .before .before .before .args .body .now) in
-    carried p bs ms os kind body (c .before .before .before .before .before .before .before .before .before .before .before .before .before .before .before .before .before .before .before .before .before .before .before .decode .result) (c .before .before .before .before .before .before .before .before .before .before .before .before .before .before .before .before .before .before .before .before .before .before .before .decode .ensures) ((c .before .before .before .before .before .before .before .before .before .before .before .before .before .before .before .before .before .before .before .before .before .d .given) .0 .0) ((c .before .before .before .before .before .before .before .before .before .before .before .before .before .before .before .before .before .before .before .before .before .d .given) .0 .1 .0) (c .before .before .before .before .before .before .before .before .before .before .before .before .before .before .before .before .before .before .before .before .before .d .given .1) ((c .before .before .before .before .before .before .before .before .before .before .before .before .before .before .before .before .before .before .before .before .before .before .before .before .before .before .before .before .before .args .lent .now)) (c .before .before .before .before .before .before .before .before .before .before .before .before .before .before .before .before .before .before .load .last .0) (c .before .before .before .before .before .before .before .before .before .before .before .step .last .1 .1 .1 .1 .1 .0) (c .before .before .before .before .before .before .before .before .before .before .before .step .last .1 .0) (c .before .before .before .before .before .before .before .before .before .before .before .step .last .1 .1 .0) (c .before .before .before .before .before .before .before .before .before .before .before .step .last .1 .1 .1 .0) (c .before .before .before .before .before .before .before .before .before .before .before .step .result) (c .given-of .result) (c .before .before .before .before .before .before .before .before .before .before .before .before .before .before .before .before .before .before .before .before .before .before .before .before .before .before .before .before .before .pre) ((c .before .before .before .before .before .before .before .before .before .before .before .before .before .before .before .before .before .before .load .kept) .0) (c .before .before .before .before .before .before .before .before .before .before .before .before .before .before .before .before .before .before .load .ensures) (c .before .before .before .before .before .before .before .before .before .before .before .step .ensures) (c .given-of .ensures)
+    let back = c .before .before .before .before .before .before .before .before .before .before .before .before in
+    let further = back .before .before .before .before .before .before .before .before .before .before .before .before in
+    let at-step = c .before .before .before .before .before .before .before .before .before .before .before .step in
+    let at-load = back .before .before .before .before .before .before .load in
+    let at-d = back .before .before .before .before .before .before .before .before .before .d in
+    let at-decode = back .before .before .before .before .before .before .before .before .before .before .before .decode in
+    let start = further .before .before .before .before .before in
+    let p = (start .args .p) in
+    let bs = (start .args .bytes .now) in
+    let ms = (start .args .marks .now) in
+    let os = (start .args .out .now) in
+    let kind = (start .args .kind) in
+    let body = (start .args .body .now) in
+    carried p bs ms os kind body (at-decode .result) (at-decode .ensures) ((at-d .given) .0 .0) ((at-d .given) .0 .1 .0) (at-d .given .1)
+    (start .args .lent .now) (at-load .last .0) (at-step .last .1 .1 .1 .1 .1 .0) (at-step .last .1 .0) (at-step .last .1 .1 .0) (at-step .last .1 .1 .1 .0)
+    (at-step .result) (c .given-of .result) (start .pre) ((at-load .kept) .0) (at-load .ensures) (at-step .ensures) (c .given-of .ensures)
 
 pub carry-spec : {M : Type 1} → statement M
 carry-spec =

@@ -16,7 +16,9 @@ array-share-prefix-lent : tie.Need-array-share-prefix-lent
 array-share-prefix-lent c = search needs
 
 slice-aggregate-put-line : tie.Need-slice-aggregate-put-line
-slice-aggregate-put-line c = sym (length-take-le ((c .before .before .before .before .before .before .before .before .before .before .before .carry .result) .given) (c .before .before .before .before .before .before .before .before .before .before .before .carry .last .1 .1 .1 .1 .1 .1 .0) ((c .before .before .before .before .before .before .before .before .before .before .before .carry .ensures) .upto))
+slice-aggregate-put-line c =
+    let at-carry = c .before .before .before .before .before .before .before .before .before .before .before .carry in
+    sym (length-take-le ((at-carry .result) .given) (at-carry .last .1 .1 .1 .1 .1 .1 .0) ((at-carry .ensures) .upto))
 
 put-line-requires : tie.Need-put-line-requires
 put-line-requires c κs = search needs
@@ -34,7 +36,14 @@ same-length-4 : tie.Need-same-length-4
 same-length-4 c = search needs
 
 returns : tie.Need-returns
-returns c = recorded ((c .before .before .before .before .before .before .before .before .before .before .before .before .before .before .before .before .before .before .before .before .before .before .before .before .args .p)) ((c .before .before .before .before .before .before .before .before .before .before .before .before .before .before .before .before .before .before .before .before .before .before .before .before .args .bytes .now)) ((c .before .before .before .before .before .before .before .before .before .before .before .before .before .before .before .before .before .before .before .before .before .before .before .before .args .marks .now)) ((c .before .before .before .before .before .before .before .before .before .before .before .before .before .before .before .before .before .before .before .before .before .before .before .before .args .out .now)) ((c .before .before .before .before .before .before .before .before .before .before .before .before .before .before .before .before .before .before .before .before .before .before .before .before .args .index)) ((c .before .before .before .before .before .before .before .before .before .before .before .before .before .before .before .before .before .before .before .before .before .before .before .before .args .kind)) ((c .before .before .before .before .before .before .before .before .before .before .before .before .before .before .before .before .before .before .before .before .before .before .before .before .args .body .now)) ((c .before .before .before .before .before .before .before .before .before .before .before .before .before .before .before .before .before .before .before .before .before .before .before .before .args .line .now)) (c .before .before .put-line .last .0) (c .before .before .before .before .before .before .before .before .before .before .before .before .before .before .carry .result) (c .before .before .put-line .result) (c .before .before .before .before .before .before .before .before .before .before .before .before .before .before .carry .last .1 .0) (c .before .before .before .before .before .before .before .before .before .before .before .before .before .before .carry .last .1 .1 .0) (c .before .before .before .before .before .before .before .before .before .before .before .before .before .before .carry .last .1 .1 .1 .0) (c .before .before .before .before .before .before .before .before .before .before .before .before .before .before .carry .last .1 .1 .1 .1 .1 .1 .0) (c .before .before .before .before .before .before .before .before .before .before .before .before .before .before .carry .ensures) (c .before .before .put-line .ensures)
+returns c =
+    let back = c .before .before .before .before .before .before .before .before .before .before .before .before in
+    let at-put-line = c .before .before .put-line in
+    let at-carry = back .before .before .carry in
+    let start = back .before .before .before .before .before .before .before .before .before .before .before .before in
+    recorded (start .args .p) (start .args .bytes .now) (start .args .marks .now) (start .args .out .now) (start .args .index) (start .args .kind)
+    (start .args .body .now) (start .args .line .now) (at-put-line .last .0) (at-carry .result) (at-put-line .result) (at-carry .last .1 .0)
+    (at-carry .last .1 .1 .0) (at-carry .last .1 .1 .1 .0) (at-carry .last .1 .1 .1 .1 .1 .1 .0) (at-carry .ensures) (at-put-line .ensures)
 
 pub record-spec : {M : Type 1} → statement M
 record-spec =

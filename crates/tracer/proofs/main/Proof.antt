@@ -7,7 +7,8 @@ use Rattle.tracer.proofs.main.Statement.{statement}
 use Rattle.tracer.proofs.main.Tie as tie
 
 abbrev Inv-loop : tie.InvT-loop
-Inv-loop bytes₀ marks₀ out₀ kept₀ buf₀ s₀ turns₀ t13 t14 t15 bytes marks out kept buf s turns = (length bytes ≡ 1024) × (length marks ≡ 1024) × (length out ≡ 2048) × (length buf ≡ 65536)
+Inv-loop bytes₀ marks₀ out₀ kept₀ buf₀ s₀ turns₀ t13 t14 t15 bytes marks out kept buf s turns =
+    (length bytes ≡ 1024) × (length marks ≡ 1024) × (length out ≡ 2048) × (length buf ≡ 65536)
 
 abbrev μ-loop : tie.MeasureT-loop
 μ-loop bytes₀ marks₀ out₀ kept₀ buf₀ s₀ turns₀ t13 t14 t15 bytes marks out kept buf s turns = turns
@@ -34,7 +35,10 @@ returns : tie.Need-returns Inv-loop μ-loop
 returns c = tt
 
 slice-aggregate-count : tie.Need-slice-aggregate-count Inv-loop μ-loop
-slice-aggregate-count c = sym ((c .before .before .before .read .kept .1 .0) ∙ (c .before .before .before .before .before .before .before .before .loop .inv .3))
+slice-aggregate-count c =
+    let at-read = c .before .before .before .read in
+    let at-loop = c .before .before .before .before .before .before .before .before .loop in
+    sym ((at-read .kept .1 .0) ∙ (at-loop .inv .3))
 
 count-requires : tie.Need-count-requires Inv-loop μ-loop
 count-requires c κs = tt
@@ -67,13 +71,28 @@ returns-2 : tie.Need-returns-2 Inv-loop μ-loop
 returns-2 c = tt
 
 sub-turns : tie.Need-sub-turns Inv-loop μ-loop
-sub-turns c = omega (arith, (c .before .before .before .before .before .before .before .before .before .before .before .before .before .before .before .before .before .before .before .before .before .loop-test .taken))
+sub-turns c =
+    let back = c .before .before .before .before .before .before .before .before .before .before .before .before in
+    let at-loop-test = back .before .before .before .before .before .before .before .before .before .loop-test in
+    omega (arith, (at-loop-test .taken))
 
 loop-less : tie.Need-loop-less Inv-loop μ-loop
-loop-less c = omega (arith, (c .before .before .before .before .before .before .before .before .before .before .before .before .before .before .before .before .before .before .before .before .before .loop-test .taken))
+loop-less c =
+    let back = c .before .before .before .before .before .before .before .before .before .before .before .before in
+    let at-loop-test = back .before .before .before .before .before .before .before .before .before .loop-test in
+    omega (arith, (at-loop-test .taken))
 
 loop-again : tie.Need-loop-again Inv-loop μ-loop
-loop-again c = ((c .before .before .before .before .before .before .pass .kept .1 .0) ∙ (c .before .before .before .before .before .before .before .before .before .before .before .before .before .before .before .before .before .before .before .before .before .before .loop .inv .0), (c .before .before .before .before .before .before .pass .kept .1 .1 .0) ∙ (c .before .before .before .before .before .before .before .before .before .before .before .before .before .before .before .before .before .before .before .before .before .before .loop .inv .1), (c .before .before .before .before .before .before .pass .kept .1 .1 .1 .0) ∙ (c .before .before .before .before .before .before .before .before .before .before .before .before .before .before .before .before .before .before .before .before .before .before .loop .inv .2), (c .before .before .before .before .before .before .before .before .before .before .before .before .before .before .before .before .before .read .kept .1 .0) ∙ (c .before .before .before .before .before .before .before .before .before .before .before .before .before .before .before .before .before .before .before .before .before .before .loop .inv .3))
+loop-again c =
+    let back = c .before .before .before .before .before .before .before .before .before .before .before .before in
+    let at-pass = c .before .before .before .before .before .before .pass in
+    let at-read = back .before .before .before .before .before .read in
+    let at-loop = back .before .before .before .before .before .before .before .before .before .before .loop in (
+      (at-pass .kept .1 .0) ∙ (at-loop .inv .0),
+      (at-pass .kept .1 .1 .0) ∙ (at-loop .inv .1),
+      (at-pass .kept .1 .1 .1 .0) ∙ (at-loop .inv .2),
+      (at-read .kept .1 .0) ∙ (at-loop .inv .3),
+    )
 
 slice-aggregate-finish : tie.Need-slice-aggregate-finish Inv-loop μ-loop
 slice-aggregate-finish c = refl
@@ -85,7 +104,9 @@ array-share-prefix-line : tie.Need-array-share-prefix-line Inv-loop μ-loop
 array-share-prefix-line c = omega (arith, (c .before .finish .ensures .0 .count))
 
 slice-aggregate-write-all : tie.Need-slice-aggregate-write-all Inv-loop μ-loop
-slice-aggregate-write-all c = sym (length-take-le (c .before .before .finish .result) (c .before .before .finish .last .1 .1 .0) (omega (arith, (c .before .before .finish .ensures .0 .count), (c .before .before .finish .kept .1 .1 .0))))
+slice-aggregate-write-all c =
+    let at-finish = c .before .before .finish in
+    sym (length-take-le (at-finish .result) (at-finish .last .1 .1 .0) (omega (arith, (at-finish .ensures .0 .count), (at-finish .kept .1 .1 .0))))
 
 write-all-requires : tie.Need-write-all-requires Inv-loop μ-loop
 write-all-requires c κs = tt

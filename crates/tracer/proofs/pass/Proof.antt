@@ -1,6 +1,6 @@
 -- `tracer::pass` meets its contract. Assumes nothing.
 use Rattle.tracer.proofs.Laws.{fed-on, fed-further}
-use Rattle.feeding.proofs.Pieces.{Passing, passing-begins, passing-next, passing-done}
+use Rattle.trace.proofs.stream.Pieces.{Passing, passing-begins, passing-next, passing-done}
 use lib.Seq.{length-take-le}
 use lib.ListN.{length, drop, length-drop, length-take}
 use mathlib.Core.Bool.{false≢true}
@@ -11,13 +11,23 @@ use Rattle.tracer.proofs.pass.Statement.{statement}
 use Rattle.tracer.proofs.pass.Tie as tie
 
 abbrev Inv-loop : tie.InvT-loop
-Inv-loop bytes₀ marks₀ out₀ kept₀ piece line₀ s₀ at₀ bytes marks out kept line s at = Passing s₀ bytes₀ marks₀ out₀ kept₀ piece at s bytes marks out kept × (length line ≡ 4123) × (length bytes ≡ length bytes₀) × (length marks ≡ length marks₀) × (length out ≡ length out₀)
+Inv-loop bytes₀ marks₀ out₀ kept₀ piece line₀ s₀ at₀ bytes marks out kept line s at =
+    Passing s₀ bytes₀ marks₀ out₀ kept₀ piece at s bytes marks out kept × (length line ≡ 4123) × (length bytes ≡ length bytes₀)
+    × (length marks ≡ length marks₀) × (length out ≡ length out₀)
 
 abbrev μ-loop : tie.MeasureT-loop
 μ-loop bytes₀ marks₀ out₀ kept₀ piece line₀ s₀ at₀ bytes marks out kept line s at = length piece - at
 
 loop-holds : tie.Need-loop-holds Inv-loop μ-loop
-loop-holds c = (passing-begins (c .before .before .before .before .args .g) (c .before .before .before .before .args .bytes .now) (c .before .before .before .before .args .marks .now) (c .before .before .before .before .args .out .now) (c .before .before .before .before .args .kept .now) (c .before .before .before .before .args .piece .now), refl, refl, refl, refl)
+loop-holds c =
+    let start = c .before .before .before .before in (
+      passing-begins (start .args .g) (start .args .bytes .now) (start .args .marks .now) (start .args .out .now) (start .args .kept .now)
+          (start .args .piece .now),
+      refl,
+      refl,
+      refl,
+      refl,
+    )
 
 sub-feed : tie.Need-sub-feed Inv-loop μ-loop
 sub-feed c = omega (arith, (c .before .before .before .before .loop-test .taken))
@@ -35,34 +45,97 @@ feed-requires : tie.Need-feed-requires Inv-loop μ-loop
 feed-requires c κs = tt
 
 array-share-prefix-line : tie.Need-array-share-prefix-line Inv-loop μ-loop
-array-share-prefix-line c = omega (arith, (c .before .before .before .before .before .before .before .feed .ensures .printed .count), (c .before .before .before .before .before .before .before .before .before .before .before .before .before .before .before .loop .inv .1), (c .before .before .before .before .before .before .before .feed .kept .1 .1 .1 .1 .1 .1 .0))
+array-share-prefix-line c =
+    let back = c .before .before .before .before .before .before .before .before .before .before .before .before in
+    let at-feed = c .before .before .before .before .before .before .before .feed in
+    let at-loop = back .before .before .before .loop in
+    omega (arith, (at-feed .ensures .printed .count), (at-loop .inv .1), (at-feed .kept .1 .1 .1 .1 .1 .1 .0))
 
 slice-aggregate-write-all : tie.Need-slice-aggregate-write-all Inv-loop μ-loop
-slice-aggregate-write-all c = sym (length-take-le ((c .before .before .before .before .before .before .before .before .feed .result .length)) ((c .before .before .before .before .before .before .before .before .feed .last .1 .1 .1 .1 .1 .1 .0)) (omega (arith, (c .before .before .before .before .before .before .before .before .feed .ensures .printed .count), (c .before .before .before .before .before .before .before .before .feed .kept .1 .1 .1 .1 .1 .1 .0))))
+slice-aggregate-write-all c =
+    let at-feed = c .before .before .before .before .before .before .before .before .feed in
+    sym (length-take-le (at-feed .result .length) (at-feed .last .1 .1 .1 .1 .1 .1 .0)
+    (omega (arith, (at-feed .ensures .printed .count), (at-feed .kept .1 .1 .1 .1 .1 .1 .0))))
 
 write-all-requires : tie.Need-write-all-requires Inv-loop μ-loop
 write-all-requires c κs = tt
 
 add-at : tie.Need-add-at Inv-loop μ-loop
-add-at c = omega (arith, (c .before .before .before .before .before .before .before .before .before .before .before .feed .ensures .used), (c .before .before .before .before .before .before .before .before .before .before .before .before .before .before .before .before .before .before .loop-test .taken), (c .before .before .before .before .before .before .before .before .before .before .before .before .before .before .before .before .before .before .before .loop .inv .0 .upto), (c .before .before .before .before .before .before .before .before .before .before .before .before .before .before .before .before .before .before .before .before .before .before .before .before .good .1 .1 .1 .1 .1 .0), length-drop (c .before .before .before .before .before .before .before .before .before .before .before .before .before .before .before .before .before .before .before .loop .at) (c .before .before .before .before .before .before .before .before .before .before .before .before .before .before .before .before .before .before .before .before .before .before .before .before .args .piece .now), length-take (length (c .before .before .before .before .before .before .before .before .before .before .before .before .before .before .before .before .before .before .before .before .before .before .before .before .args .piece .now) - (c .before .before .before .before .before .before .before .before .before .before .before .before .before .before .before .before .before .before .before .loop .at)) (drop (c .before .before .before .before .before .before .before .before .before .before .before .before .before .before .before .before .before .before .before .loop .at) (c .before .before .before .before .before .before .before .before .before .before .before .before .before .before .before .before .before .before .before .before .before .before .before .before .args .piece .now)))
+add-at c =
+    let back = c .before .before .before .before .before .before .before .before .before .before .before .before in
+    let at-feed = c .before .before .before .before .before .before .before .before .before .before .before .feed in
+    let at-loop-test = back .before .before .before .before .before .before .loop-test in
+    let at-loop = back .before .before .before .before .before .before .before .loop in
+    let start = back .before .before .before .before .before .before .before .before .before .before .before .before in
+    omega (
+      arith,
+      (at-feed .ensures .used),
+      (at-loop-test .taken),
+      (at-loop .inv .0 .upto),
+      (start .good .1 .1 .1 .1 .1 .0),
+      length-drop (at-loop .at) (start .args .piece .now),
+      length-take (length (start .args .piece .now) - (at-loop .at))
+          (drop (at-loop .at) (start .args .piece .now)),
+    )
 
 same-length : tie.Need-same-length Inv-loop μ-loop
-same-length c = (c .before .before .before .before .before .before .before .before .before .before .before .before .feed .kept .1 .0) ∙ (c .before .before .before .before .before .before .before .before .before .before .before .before .before .before .before .before .before .before .before .before .loop .inv .2)
+same-length c =
+    let back = c .before .before .before .before .before .before .before .before .before .before .before .before in
+    let at-feed = c .before .before .before .before .before .before .before .before .before .before .before .before .feed in
+    let at-loop = back .before .before .before .before .before .before .before .before .loop in
+    (at-feed .kept .1 .0) ∙ (at-loop .inv .2)
 
 same-length-2 : tie.Need-same-length-2 Inv-loop μ-loop
-same-length-2 c = (c .before .before .before .before .before .before .before .before .before .before .before .before .feed .kept .1 .1 .0) ∙ (c .before .before .before .before .before .before .before .before .before .before .before .before .before .before .before .before .before .before .before .before .loop .inv .3)
+same-length-2 c =
+    let back = c .before .before .before .before .before .before .before .before .before .before .before .before in
+    let at-feed = c .before .before .before .before .before .before .before .before .before .before .before .before .feed in
+    let at-loop = back .before .before .before .before .before .before .before .before .loop in
+    (at-feed .kept .1 .1 .0) ∙ (at-loop .inv .3)
 
 same-length-3 : tie.Need-same-length-3 Inv-loop μ-loop
-same-length-3 c = (c .before .before .before .before .before .before .before .before .before .before .before .before .feed .kept .1 .1 .1 .0) ∙ (c .before .before .before .before .before .before .before .before .before .before .before .before .before .before .before .before .before .before .before .before .loop .inv .4)
+same-length-3 c =
+    let back = c .before .before .before .before .before .before .before .before .before .before .before .before in
+    let at-feed = c .before .before .before .before .before .before .before .before .before .before .before .before .feed in
+    let at-loop = back .before .before .before .before .before .before .before .before .loop in
+    (at-feed .kept .1 .1 .1 .0) ∙ (at-loop .inv .4)
 
 returns : tie.Need-returns Inv-loop μ-loop
 returns c = λ e. absurd (false≢true e)
 
 loop-less : tie.Need-loop-less Inv-loop μ-loop
-loop-less c = fed-further (c .before .before .before .before .before .before .before .before .before .before .before .before .before .before .before .before .before .before .before .before .loop .s) (c .before .before .before .before .before .before .before .before .before .before .before .before .before .before .before .before .before .before .before .before .loop .bytes) (c .before .before .before .before .before .before .before .before .before .before .before .before .before .before .before .before .before .before .before .before .loop .marks) (c .before .before .before .before .before .before .before .before .before .before .before .before .before .before .before .before .before .before .before .before .loop .out) (c .before .before .before .before .before .before .before .before .before .before .before .before .before .before .before .before .before .before .before .before .loop .kept) (c .before .before .before .before .before .before .before .before .before .before .before .before .before .before .before .before .before .before .before .before .before .before .before .before .before .args .piece .now) (c .before .before .before .before .before .before .before .before .before .before .before .before .before .before .before .before .before .before .before .before .loop .at) (c .before .before .before .before .before .before .before .before .before .before .before .before .before .before .before .before .before .before .before .before .loop .line) (c .before .before .before .before .before .before .before .before .before .before .before .before .feed .result) (c .before .before .before .before .before .before .before .before .before .before .before .before .feed .last .1 .0) (c .before .before .before .before .before .before .before .before .before .before .before .before .feed .last .1 .1 .0) (c .before .before .before .before .before .before .before .before .before .before .before .before .feed .last .1 .1 .1 .0) (c .before .before .before .before .before .before .before .before .before .before .before .before .feed .last .1 .1 .1 .1 .0) (c .before .before .before .before .before .before .before .before .before .before .before .before .feed .last .1 .1 .1 .1 .1 .1 .0) (c .before .before .before .before .before .before .before .before .before .before .before .before .before .before .before .before .before .before .before .loop-test .taken) (fed-on (c .before .before .before .before .before .before .before .before .before .before .before .before .before .before .before .before .before .before .before .before .loop .s) (c .before .before .before .before .before .before .before .before .before .before .before .before .before .before .before .before .before .before .before .before .loop .bytes) (c .before .before .before .before .before .before .before .before .before .before .before .before .before .before .before .before .before .before .before .before .loop .marks) (c .before .before .before .before .before .before .before .before .before .before .before .before .before .before .before .before .before .before .before .before .loop .out) (c .before .before .before .before .before .before .before .before .before .before .before .before .before .before .before .before .before .before .before .before .loop .kept) (c .before .before .before .before .before .before .before .before .before .before .before .before .before .before .before .before .before .before .before .before .before .before .before .before .before .args .piece .now) (c .before .before .before .before .before .before .before .before .before .before .before .before .before .before .before .before .before .before .before .before .loop .at) (c .before .before .before .before .before .before .before .before .before .before .before .before .before .before .before .before .before .before .before .before .loop .line) (c .before .before .before .before .before .before .before .before .before .before .before .before .feed .result) (c .before .before .before .before .before .before .before .before .before .before .before .before .feed .last .1 .0) (c .before .before .before .before .before .before .before .before .before .before .before .before .feed .last .1 .1 .0) (c .before .before .before .before .before .before .before .before .before .before .before .before .feed .last .1 .1 .1 .0) (c .before .before .before .before .before .before .before .before .before .before .before .before .feed .last .1 .1 .1 .1 .0) (c .before .before .before .before .before .before .before .before .before .before .before .before .feed .last .1 .1 .1 .1 .1 .1 .0) (c .before .before .before .before .before .before .before .before .before .before .before .before .feed .ensures))
+loop-less c =
+    let back = c .before .before .before .before .before .before .before .before .before .before .before .before in
+    let further = back .before .before .before .before .before .before .before .before .before .before .before .before in
+    let at-feed = c .before .before .before .before .before .before .before .before .before .before .before .before .feed in
+    let at-loop-test = back .before .before .before .before .before .before .before .loop-test in
+    let at-loop = back .before .before .before .before .before .before .before .before .loop in
+    let start = further .before in
+    fed-further (at-loop .s) (at-loop .bytes) (at-loop .marks) (at-loop .out) (at-loop .kept) (start .args .piece .now) (at-loop .at) (at-loop .line)
+    (at-feed .result) (at-feed .last .1 .0) (at-feed .last .1 .1 .0) (at-feed .last .1 .1 .1 .0) (at-feed .last .1 .1 .1 .1 .0)
+    (at-feed .last .1 .1 .1 .1 .1 .1 .0) (at-loop-test .taken) (fed-on (at-loop .s) (at-loop .bytes) (at-loop .marks) (at-loop .out) (at-loop .kept)
+    (start .args .piece .now) (at-loop .at) (at-loop .line) (at-feed .result) (at-feed .last .1 .0) (at-feed .last .1 .1 .0) (at-feed .last .1 .1 .1 .0)
+    (at-feed .last .1 .1 .1 .1 .0) (at-feed .last .1 .1 .1 .1 .1 .1 .0) (at-feed .ensures))
 
 loop-again : tie.Need-loop-again Inv-loop μ-loop
-loop-again c = (passing-next (c .before .before .before .before .before .before .before .before .before .before .before .before .before .before .before .before .before .before .before .before .before .before .before .before .before .args .g) (c .before .before .before .before .before .before .before .before .before .before .before .before .before .before .before .before .before .before .before .before .before .before .before .before .before .args .bytes .now) (c .before .before .before .before .before .before .before .before .before .before .before .before .before .before .before .before .before .before .before .before .before .before .before .before .before .args .marks .now) (c .before .before .before .before .before .before .before .before .before .before .before .before .before .before .before .before .before .before .before .before .before .before .before .before .before .args .out .now) (c .before .before .before .before .before .before .before .before .before .before .before .before .before .before .before .before .before .before .before .before .before .before .before .before .before .args .kept .now) (c .before .before .before .before .before .before .before .before .before .before .before .before .before .before .before .before .before .before .before .before .before .before .before .before .before .args .piece .now) (c .before .before .before .before .before .before .before .before .before .before .before .before .before .before .before .before .before .before .before .before .loop .at) (c .before .before .before .before .before .before .before .before .before .before .before .before .before .before .before .before .before .before .before .before .loop .s) (c .before .before .before .before .before .before .before .before .before .before .before .before .before .before .before .before .before .before .before .before .loop .bytes) (c .before .before .before .before .before .before .before .before .before .before .before .before .before .before .before .before .before .before .before .before .loop .marks) (c .before .before .before .before .before .before .before .before .before .before .before .before .before .before .before .before .before .before .before .before .loop .out) (c .before .before .before .before .before .before .before .before .before .before .before .before .before .before .before .before .before .before .before .before .loop .kept) (c .before .before .before .before .before .before .before .before .before .before .before .before .before .before .before .before .before .before .before .before .loop .inv .0) (c .before .before .before .before .before .before .before .before .before .before .before .before .before .before .before .before .before .before .before .before .loop .line) (c .before .before .before .before .before .before .before .before .before .before .before .before .feed .result) (c .before .before .before .before .before .before .before .before .before .before .before .before .feed .last .1 .0) (c .before .before .before .before .before .before .before .before .before .before .before .before .feed .last .1 .1 .0) (c .before .before .before .before .before .before .before .before .before .before .before .before .feed .last .1 .1 .1 .0) (c .before .before .before .before .before .before .before .before .before .before .before .before .feed .last .1 .1 .1 .1 .0) (c .before .before .before .before .before .before .before .before .before .before .before .before .feed .last .1 .1 .1 .1 .1 .1 .0) (length-drop (c .before .before .before .before .before .before .before .before .before .before .before .before .before .before .before .before .before .before .before .before .loop .at) (c .before .before .before .before .before .before .before .before .before .before .before .before .before .before .before .before .before .before .before .before .before .before .before .before .before .args .piece .now)) (fed-on (c .before .before .before .before .before .before .before .before .before .before .before .before .before .before .before .before .before .before .before .before .loop .s) (c .before .before .before .before .before .before .before .before .before .before .before .before .before .before .before .before .before .before .before .before .loop .bytes) (c .before .before .before .before .before .before .before .before .before .before .before .before .before .before .before .before .before .before .before .before .loop .marks) (c .before .before .before .before .before .before .before .before .before .before .before .before .before .before .before .before .before .before .before .before .loop .out) (c .before .before .before .before .before .before .before .before .before .before .before .before .before .before .before .before .before .before .before .before .loop .kept) (c .before .before .before .before .before .before .before .before .before .before .before .before .before .before .before .before .before .before .before .before .before .before .before .before .before .args .piece .now) (c .before .before .before .before .before .before .before .before .before .before .before .before .before .before .before .before .before .before .before .before .loop .at) (c .before .before .before .before .before .before .before .before .before .before .before .before .before .before .before .before .before .before .before .before .loop .line) (c .before .before .before .before .before .before .before .before .before .before .before .before .feed .result) (c .before .before .before .before .before .before .before .before .before .before .before .before .feed .last .1 .0) (c .before .before .before .before .before .before .before .before .before .before .before .before .feed .last .1 .1 .0) (c .before .before .before .before .before .before .before .before .before .before .before .before .feed .last .1 .1 .1 .0) (c .before .before .before .before .before .before .before .before .before .before .before .before .feed .last .1 .1 .1 .1 .0) (c .before .before .before .before .before .before .before .before .before .before .before .before .feed .last .1 .1 .1 .1 .1 .1 .0) (c .before .before .before .before .before .before .before .before .before .before .before .before .feed .ensures)), (c .before .before .before .before .before .before .before .before .before .before .before .before .feed .kept .1 .1 .1 .1 .1 .1 .0) ∙ (c .before .before .before .before .before .before .before .before .before .before .before .before .before .before .before .before .before .before .before .before .loop .inv .1), (c .before .before .before .before .before .before .before .before .before .before .before .before .feed .kept .1 .0) ∙ (c .before .before .before .before .before .before .before .before .before .before .before .before .before .before .before .before .before .before .before .before .loop .inv .2), (c .before .before .before .before .before .before .before .before .before .before .before .before .feed .kept .1 .1 .0) ∙ (c .before .before .before .before .before .before .before .before .before .before .before .before .before .before .before .before .before .before .before .before .loop .inv .3), (c .before .before .before .before .before .before .before .before .before .before .before .before .feed .kept .1 .1 .1 .0) ∙ (c .before .before .before .before .before .before .before .before .before .before .before .before .before .before .before .before .before .before .before .before .loop .inv .4))
+loop-again c =
+    let back = c .before .before .before .before .before .before .before .before .before .before .before .before in
+    let further = back .before .before .before .before .before .before .before .before .before .before .before .before in
+    let at-feed = c .before .before .before .before .before .before .before .before .before .before .before .before .feed in
+    let at-loop = back .before .before .before .before .before .before .before .before .loop in
+    let start = further .before in (
+      passing-next (start .args .g) (start .args .bytes .now) (start .args .marks .now) (start .args .out .now) (start .args .kept .now)
+          (start .args .piece .now) (at-loop .at) (at-loop .s) (at-loop .bytes) (at-loop .marks) (at-loop .out) (at-loop .kept) (at-loop .inv .0) (at-loop .line)
+          (at-feed .result) (at-feed .last .1 .0) (at-feed .last .1 .1 .0) (at-feed .last .1 .1 .1 .0) (at-feed .last .1 .1 .1 .1 .0)
+          (at-feed .last .1 .1 .1 .1 .1 .1 .0) (length-drop (at-loop .at) (start .args .piece .now))
+          (fed-on (at-loop .s) (at-loop .bytes) (at-loop .marks) (at-loop .out) (at-loop .kept) (start .args .piece .now) (at-loop .at) (at-loop .line)
+          (at-feed .result) (at-feed .last .1 .0) (at-feed .last .1 .1 .0) (at-feed .last .1 .1 .1 .0) (at-feed .last .1 .1 .1 .1 .0)
+          (at-feed .last .1 .1 .1 .1 .1 .1 .0) (at-feed .ensures)),
+      (at-feed .kept .1 .1 .1 .1 .1 .1 .0) ∙ (at-loop .inv .1),
+      (at-feed .kept .1 .0)
+          ∙ (at-loop .inv .2),
+      (at-feed .kept .1 .1 .0) ∙ (at-loop .inv .3),
+      (at-feed .kept .1 .1 .1 .0) ∙ (at-loop .inv .4),
+    )
 
 same-length-4 : tie.Need-same-length-4 Inv-loop μ-loop
 same-length-4 c = (c .before .loop .inv .2)
@@ -74,7 +147,11 @@ same-length-6 : tie.Need-same-length-6 Inv-loop μ-loop
 same-length-6 c = (c .before .loop .inv .4)
 
 returns-2 : tie.Need-returns-2 Inv-loop μ-loop
-returns-2 c = λ e. passing-done (c .before .before .before .before .before .before .args .g) (c .before .before .before .before .before .before .args .bytes .now) (c .before .before .before .before .before .before .args .marks .now) (c .before .before .before .before .before .before .args .out .now) (c .before .before .before .before .before .before .args .kept .now) (c .before .before .before .before .before .before .args .piece .now) (c .before .loop .at) (c .before .loop .s) (c .before .loop .bytes) (c .before .loop .marks) (c .before .loop .out) (c .before .loop .kept) (c .before .loop .inv .0) (c .loop-test .left)
+returns-2 c =
+    let start = c .before .before .before .before .before .before in
+    λ e. passing-done (start .args .g) (start .args .bytes .now) (start .args .marks .now) (start .args .out .now) (start .args .kept .now)
+    (start .args .piece .now) (c .before .loop .at) (c .before .loop .s) (c .before .loop .bytes) (c .before .loop .marks) (c .before .loop .out)
+    (c .before .loop .kept) (c .before .loop .inv .0) (c .loop-test .left)
 
 pub pass-spec : {M : Type 1} → statement M
 pass-spec =

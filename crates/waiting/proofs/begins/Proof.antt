@@ -21,13 +21,22 @@ started-requires : tie.Need-started-requires
 started-requires c κs = search needs
 
 returns-3 : tie.Need-returns-3
-returns-3 c = λ ps e.
+returns-3 c =
+    let at-starts = c .before .before .starts in
+    let at-if2 = c .before .before .before .if2 in
+    let at-if1 = c .before .before .before .before .before .if1 in
+    let start = c .before .before .before .before .before .before in
+    λ ps e.
     c .started .ensures
-    ∙ begun (c .before .before .before .before .before .before .args .x) ps (c .before .before .before .before .before .before .args .stored) (c .before .before .before .before .before .before .args .n) true (c .before .before .before .before .before .if1 .left) (c .before .before .before .if2 .left) e (sym (c .before .before .starts .ensures) ∙ c .before .if3 .taken)
+    ∙ begun (start .args .x) ps (start .args .stored) (start .args .n) true (at-if1 .left) (at-if2 .left) e (sym (at-starts .ensures) ∙ c .before .if3 .taken)
 
 returns-4 : tie.Need-returns-4
-returns-4 c = λ ps e.
-    begun (c .before .before .before .before .before .args .x) ps (c .before .before .before .before .before .args .stored) (c .before .before .before .before .before .args .n) false (c .before .before .before .before .if1 .left) (c .before .before .if2 .left) e (sym (c .before .starts .ensures) ∙ c .if3 .left)
+returns-4 c =
+    let at-if2 = c .before .before .if2 in
+    let at-if1 = c .before .before .before .before .if1 in
+    let start = c .before .before .before .before .before in
+    λ ps e.
+    begun (start .args .x) ps (start .args .stored) (start .args .n) false (at-if1 .left) (at-if2 .left) e (sym (c .before .starts .ensures) ∙ c .if3 .left)
 
 pub begins-spec : {M : Type 1} → statement M
 begins-spec =

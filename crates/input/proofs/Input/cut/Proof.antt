@@ -11,7 +11,10 @@ drop-newest-requires : tie.Need-drop-newest-requires
 drop-newest-requires c κs = search needs
 
 returns : tie.Need-returns
-returns c = cut-of (c .before .before .before .args .self) (c .drop-newest .result) (c .before .before .before .args .n) (c .before .before .before .args .at) (c .before .less .result) (c .before .before .before .pre) (c .before .less .ensures) (c .drop-newest .ensures)
+returns c =
+    let start = c .before .before .before in
+    cut-of (start .args .self) (c .drop-newest .result) (start .args .n) (start .args .at) (c .before .less .result) (start .pre) (c .before .less .ensures)
+    (c .drop-newest .ensures)
 
 pub cut-spec : {M : Type 1} → statement M
 cut-spec = tie.close (tie.spec less-requires drop-newest-requires returns)

@@ -11,7 +11,9 @@ least-requires : tie.Need-least-requires
 least-requires c κs = search needs
 
 returns : tie.Need-returns
-returns c = fit-of (c .before .before .before .args .self) (c .before .fit .result) (c .before .before .before .args .n) (c .least .result) (c .before .fit .ensures) (c .least .ensures)
+returns c =
+    let start = c .before .before .before in
+    fit-of (start .args .self) (c .before .fit .result) (start .args .n) (c .least .result) (c .before .fit .ensures) (c .least .ensures)
 
 pub fit-spec : {M : Type 1} → statement M
 fit-spec = tie.close (tie.spec fit-requires least-requires returns)

@@ -12,7 +12,10 @@ fresh-requires : tie.Need-fresh-requires
 fresh-requires c κs = search needs
 
 returns : tie.Need-returns
-returns c = flush-of (c .before .drop-all .result) (c .fresh .result) (c .before .before .before .args .self .queue .head % c .before .before .before .args .n) (c .before .drop-all .ensures) (c .fresh .ensures)
+returns c =
+    let start = c .before .before .before in
+    flush-of (c .before .drop-all .result) (c .fresh .result) (start .args .self .queue .head % start .args .n) (c .before .drop-all .ensures)
+    (c .fresh .ensures)
 
 pub flush-spec : {M : Type 1} → statement M
 flush-spec = tie.close (tie.spec drop-all-requires fresh-requires returns)

@@ -9,7 +9,9 @@ fit-requires : tie.Need-fit-requires
 fit-requires c κs = search needs
 
 returns : tie.Need-returns
-returns c = ap (λ (q : Queue). record { queue = q; column = c .before .before .args .self .column; stopped = c .before .before .args .self .stopped }) (c .fit .ensures)
+returns c =
+    let start = c .before .before in
+    ap (λ (q : Queue). record { queue = q; column = start .args .self .column; stopped = start .args .self .stopped }) (c .fit .ensures)
 
 pub fit-spec : {M : Type 1} → statement M
 fit-spec = tie.close (tie.spec fit-requires returns)

@@ -9,7 +9,9 @@ drop-all-requires : tie.Need-drop-all-requires
 drop-all-requires c κs = search needs
 
 returns : tie.Need-returns
-returns c = ap (λ (q : Queue). record { queue = q; column = c .before .before .args .self .column; stopped = c .before .before .args .self .stopped }) (c .drop-all .ensures)
+returns c =
+    let start = c .before .before in
+    ap (λ (q : Queue). record { queue = q; column = start .args .self .column; stopped = start .args .self .stopped }) (c .drop-all .ensures)
 
 pub flush-spec : {M : Type 1} → statement M
 flush-spec = tie.close (tie.spec drop-all-requires returns)

@@ -14,7 +14,9 @@ sub-t5 : tie.Need-sub-t5
 sub-t5 c = omega (arith, ap (λ (q : Queue). q .len) (c .before .fit .ensures))
 
 returns : tie.Need-returns
-returns c = measure-begins (c .before .before .before .args .self) (c .before .before .before .args .n) (c .before .fit .result .len) (ap (λ (q : Queue). q .len) (c .before .fit .ensures))
+returns c =
+    let start = c .before .before .before in
+    measure-begins (start .args .self) (start .args .n) (c .before .fit .result .len) (ap (λ (q : Queue). q .len) (c .before .fit .ensures))
 
 pub measure-spec : {M : Type 1} → statement M
 measure-spec = tie.close (tie.spec fit-requires sub-t5 returns)

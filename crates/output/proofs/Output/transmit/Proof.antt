@@ -8,7 +8,9 @@ fit-requires : tie.Need-fit-requires
 fit-requires c κs = search needs
 
 returns : tie.Need-returns
-returns c = sent-stopped (c .before .before .before .before .args .self) (c .fit .result) (c .before .before .before .before .args .out .now) (c .before .before .before .before .args .dst .now) (c .before .if1 .taken) (c .fit .ensures)
+returns c =
+    let start = c .before .before .before .before in
+    sent-stopped (start .args .self) (c .fit .result) (start .args .out .now) (start .args .dst .now) (c .before .if1 .taken) (c .fit .ensures)
 
 take-requires : tie.Need-take-requires
 take-requires c κs = search needs
@@ -17,7 +19,11 @@ same-length : tie.Need-same-length
 same-length c = search needs
 
 returns-2 : tie.Need-returns-2
-returns-2 c = sent-some (c .before .before .before .before .before .before .before .before .before .args .self) (c .before .before .before .before .before .before .before .before .before .args .out .now) (c .before .before .before .before .before .before .before .before .before .args .dst .now) (c .before .before .before .take .last .1 .1 .0) (c .before .before .before .take .result) (c .before .before .before .before .before .before .if1 .left) (c .before .before .before .take .ensures)
+returns-2 c =
+    let at-take = c .before .before .before .take in
+    let at-if1 = c .before .before .before .before .before .before .if1 in
+    let start = c .before .before .before .before .before .before .before .before .before in
+    sent-some (start .args .self) (start .args .out .now) (start .args .dst .now) (at-take .last .1 .1 .0) (at-take .result) (at-if1 .left) (at-take .ensures)
 
 pub transmit-spec : {M : Type 1} → statement M
 transmit-spec = tie.close (tie.spec fit-requires returns take-requires same-length returns-2)

@@ -1,6 +1,5 @@
 -- `queue::Queue::at` meets its contract. Assumes nothing.
-use Rattle.queue.proofs.Laws.{place-lt}
-use Rattle.queue.proofs.Laws.{fit-len, fit-head, fit-lt, at-in, at-out}
+use Rattle.queue.proofs.Laws.{place-lt, fit-len, fit-head, fit-lt, at-in, at-out}
 use lib.ListN.{length}
 use mathlib.Core.Path.{_≡_}
 use Prim.Native.Nat.{ℕ, _+_, min}
@@ -52,9 +51,10 @@ returns c =
 
 returns-2 : tie.Need-returns-2
 returns-2 c =
-    let start = c .before .before .before .before in
     let p = c .before .before .fit in
-    at-out (start .args .self) (start .args .ring .now) (start .args .i) (omega (arith, fit-len (start .args .self) (p .result) (length (start .args .ring .now)) (p .ensures)))
+    let start = c .before .before .before .before in
+    at-out (start .args .self) (start .args .ring .now) (start .args .i)
+    (omega (arith, fit-len (start .args .self) (p .result) (length (start .args .ring .now)) (p .ensures)))
 
 pub at-spec : {M : Type 1} → statement M
 at-spec =

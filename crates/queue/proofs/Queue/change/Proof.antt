@@ -1,6 +1,5 @@
 -- `queue::Queue::change` meets its contract. Assumes nothing.
-use Rattle.queue.proofs.Laws.{place-lt}
-use Rattle.queue.proofs.Laws.{fit-len, fit-head, fit-lt, changed-in, changed-out}
+use Rattle.queue.proofs.Laws.{place-lt, fit-len, fit-head, fit-lt, changed-in, changed-out}
 use lib.ListN.{length}
 use mathlib.Core.Path.{_≡_}
 use Prim.Native.Nat.{ℕ, _+_, min}
@@ -46,18 +45,20 @@ same-length c = search needs
 
 returns : tie.Need-returns
 returns c =
+    let p = c .before .before .before .before .fit in
     let start = c .before .before .before .before .before .before in
     let q = start .args .self in
     let l = start .args .ring .now in
-    let p = c .before .before .before .before .fit in
     let k : p .result .len ≡ min (q .len) (length l) = fit-len q (p .result) (length l) (p .ensures) in
-    changed-in q l (start .args .i) (start .args .b) (c .wrap .result) (omega arith) (rw (fit-head q (p .result) (length l) (p .ensures)) at (c .wrap .ensures))
+    changed-in q l (start .args .i) (start .args .b) (c .wrap .result) (omega arith)
+    (rw (fit-head q (p .result) (length l) (p .ensures)) at (c .wrap .ensures))
 
 returns-2 : tie.Need-returns-2
 returns-2 c =
-    let start = c .before .before .before .before in
     let p = c .before .before .fit in
-    changed-out (start .args .self) (start .args .ring .now) (start .args .i) (start .args .b) (omega (arith, fit-len (start .args .self) (p .result) (length (start .args .ring .now)) (p .ensures)))
+    let start = c .before .before .before .before in
+    changed-out (start .args .self) (start .args .ring .now) (start .args .i) (start .args .b)
+    (omega (arith, fit-len (start .args .self) (p .result) (length (start .args .ring .now)) (p .ensures)))
 
 pub change-spec : {M : Type 1} → statement M
 change-spec =

@@ -39,9 +39,11 @@ sub-t9 c = search needs
 
 returns : tie.Need-returns
 returns c =
-    let start = c .before .before .before .before .before in
+    let at-least = c .before .before .least in
     let p = c .before .before .before .fit in
-    drop-oldest-of (start .args .self) (p .result) (length (start .args .ring .now)) (start .args .k) (c .before .before .least .result) (c .home .result) (p .ensures) (c .before .before .least .ensures) (c .home .ensures)
+    let start = c .before .before .before .before .before in
+    drop-oldest-of (start .args .self) (p .result) (length (start .args .ring .now)) (start .args .k) (at-least .result) (c .home .result) (p .ensures)
+    (at-least .ensures) (c .home .ensures)
 
 pub drop-oldest-spec : {M : Type 1} → statement M
 drop-oldest-spec =

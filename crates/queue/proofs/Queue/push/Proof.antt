@@ -1,6 +1,5 @@
 -- `queue::Queue::push` meets its contract. Assumes nothing.
-use Rattle.queue.proofs.Laws.{place-lt}
-use Rattle.queue.proofs.Laws.{fit-len, fit-lt, push-of, push-full-of}
+use Rattle.queue.proofs.Laws.{place-lt, fit-len, fit-lt, push-of, push-full-of}
 use lib.ListN.{length}
 use mathlib.Core.Path.{_≡_}
 use Prim.Native.Nat.{ℕ, _+_, min}
@@ -49,9 +48,10 @@ same-length c = search needs
 
 returns : tie.Need-returns
 returns c =
-    let start = c .before .before .before .before in
     let p = c .before .before .fit in
-    push-of (start .args .self) (p .result) (start .args .ring .now) (p .ensures) (start .args .b) (c .wrap .result) (c .before .if1 .taken) (c .wrap .ensures)
+    let start = c .before .before .before .before in
+    push-of (start .args .self) (p .result) (start .args .ring .now) (p .ensures) (start .args .b) (c .wrap .result) (c .before .if1 .taken)
+    (c .wrap .ensures)
 
 returns-2 : tie.Need-returns-2
 returns-2 c =

@@ -1,0 +1,2 @@
+pub mod GoesOff
+pub mod GoesOn

@@ -1,0 +1,12 @@
+-- What a written byte turns into.
+use Prim.Native.Nat.{ℕ}
+use mathlib.Core.List.{List, [], _∷_}
+use lib.ListN.{replicate}
+use Rattle.output.specs.declared.expansion.Expansion.{Expansion}
+use Rattle.output.specs.declared.expansion.Expansion.the-variants.{Nothing, Byte, Pair, Spaces}
+
+abbrev pub bytesOf : Expansion → List ℕ
+bytesOf Nothing = []
+bytesOf (Byte b) = b ∷ []
+bytesOf Pair = 13 ∷ 10 ∷ []
+bytesOf (Spaces n) = replicate n 32

@@ -1,0 +1,108 @@
+// Document 01, 'Editing' and its echo, on a port: a run of units is erased or killed.
+// Document 01, 'Editing': REPRINT on a port.
+// Document 01, 'Editing', on a port: ERASE, WERASE, KILL, REPRINT, each by what it removes or shows again.
+ghost use mathlib.Core.Path.{_≡_};
+ghost use lib.ListN.{length};
+ghost use lib.Dec.{leb};
+ghost use Rattle.rules.specs.Lent.{before, after};
+ghost use Rattle.rules.specs.Editing.{erase, wordErase, kill, reprint};
+ghost use Rattle.input.specs.Contract.{Within};
+ghost use Rattle.port.specs.Layers.{Ranged, Ready, Becomes, state, sizesOf, unitsOf};
+ghost use Rattle.received.specs.edits.Contract.{without, Edited};
+ghost use Rattle.rules.specs.Received.{editOn};
+ghost use Rattle.received.specs.meaning.Meaning.{editOf};
+use super::meaning::Edit;
+use editing::Run;
+use editing::reprinting;
+use editing::words;
+use input::Input;
+use port::Port;
+
+// the current line has no unit
+fn line_empty(i: Input) -> bool
+    ensures { λ r. ⌜ r ≡ leb (i .queue .len) (i .ready) ⌝ }
+{
+    let q = i.queue;
+    q.len <= i.ready
+}
+
+// the line ends where the run begins
+fn without(p: Port, n: usize, run: Run) -> Port
+    requires { ⌜ Within (p .input) n ⌝ }
+    ensures { λ r. ⌜ r ≡ «without» p run ⌝ }
+{
+    let i = p.input;
+    let input = i.cut(n, run.at);
+    let output = p.output;
+    let waiting = p.waiting;
+    port::assemble(p, input, output, waiting)
+}
+
+// ERASE and WERASE by the character b: the units of the run are gone, and what that shows is shown; on an empty line nothing
+pub fn erases(p: Port, n: usize, out: &mut [u8], b: u8, run: Run) -> Port
+    requires { ⌜ Ranged p n (length (now out)) ⌝ }
+    ensures { λ r. ⌜ Edited p n (before out) run b r (after out) erase × Edited p n (before out) run b r (after out) wordErase ⌝ }
+{
+    let i = p.input;
+    if line_empty(i) {
+        return p;
+    }
+    let x = p.settings;
+    let q = without(p, n, run);
+    let o = q.output;
+    let output = echo::of_erased(o, x, out, b, run.units);
+    q.with_output(output)
+}
+
+// KILL likewise
+pub fn kills(p: Port, n: usize, out: &mut [u8], b: u8, run: Run) -> Port
+    requires { ⌜ Ranged p n (length (now out)) ⌝ }
+    ensures { λ r. ⌜ Edited p n (before out) run b r (after out) kill ⌝ }
+{
+    let i = p.input;
+    if line_empty(i) {
+        return p;
+    }
+    let x = p.settings;
+    let q = without(p, n, run);
+    let o = q.output;
+    let output = echo::of_killed(o, x, out, b, run.units);
+    q.with_output(output)
+}
+
+// REPRINT: the line stays, and is shown again
+pub fn reprints(p: Port, bytes: &[u8], marks: &[u8], out: &mut [u8], b: u8) -> Port
+    requires { ⌜ Ready p (now bytes) (now marks) (now out) ⌝ }
+    ensures { λ r. ⌜ Becomes p (before bytes) (before marks) (before out) (editOn (unitsOf p (before bytes) (before marks)) (sizesOf p (length (before bytes)) (length (before out))) (state p (before bytes) (before marks) (before out)) reprint b) r (before bytes) (before marks) (after out) ⌝ }
+{
+    let x = p.settings;
+    let i = p.input;
+    let o = p.output;
+    let output = reprinting::of_reprinted(o, x, i, bytes, marks, out, b);
+    p.with_output(output)
+}
+
+// 8. 'ICANON: ERASE, WERASE, KILL, REPRINT edit and are consumed.'
+pub fn edit(p: Port, bytes: &[u8], marks: &[u8], out: &mut [u8], e: Edit, b: u8) -> Port
+    requires { ⌜ Ready p (now bytes) (now marks) (now out) ⌝ }
+    ensures { λ r. ⌜ Becomes p (before bytes) (before marks) (before out) (editOn (unitsOf p (before bytes) (before marks)) (sizesOf p (length (before bytes)) (length (before out))) (state p (before bytes) (before marks) (before out)) (editOf e) b) r (before bytes) (before marks) (after out) ⌝ }
+{
+    let x = p.settings;
+    let i = p.input;
+    let n = bytes.len();
+    match e {
+        Edit::Erase => {
+            let run = editing::last_unit(i, marks);
+            erases(p, n, out, b, run)
+        }
+        Edit::WordErase => {
+            let run = words::last_word(i, x, bytes, marks);
+            erases(p, n, out, b, run)
+        }
+        Edit::Kill => {
+            let run = editing::whole_line(i, marks);
+            kills(p, n, out, b, run)
+        }
+        Edit::Reprint => reprints(p, bytes, marks, out, b),
+    }
+}

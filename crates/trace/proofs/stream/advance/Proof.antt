@@ -1,0 +1,111 @@
+-- `feeding::advance` meets its contract. Assumes nothing.
+use mathlib.Core.Path.{_∙_}
+use native.Mathlib.Omega.{arith}
+use borrow.Author.Needs.{needs}
+use Rattle.trace.proofs.stream.Feeding.{feeds-passed, feeds-record}
+use Rattle.trace.proofs.stream.advance.Statement.{statement}
+use Rattle.trace.proofs.stream.advance.Tie as tie
+
+take-in-requires : tie.Need-take-in-requires
+take-in-requires c κs = search needs
+
+kind-of-requires : tie.Need-kind-of-requires
+kind-of-requires c κs = search needs
+
+end-of-requires : tie.Need-end-of-requires
+end-of-requires c κs = search needs
+
+sub-record : tie.Need-sub-record
+sub-record c = search needs
+
+part-record-start : tie.Need-part-record-start
+part-record-start c = search needs
+
+part-record-end : tie.Need-part-record-end
+part-record-end c = search needs
+
+record-requires : tie.Need-record-requires
+record-requires c κs = search needs
+
+add-t30 : tie.Need-add-t30
+add-t30 c =
+    let back = c .before .before .before .before .before .before .before .before .before .before .before .before in
+    let further = back .before .before .before .before .before .before .before .before .before .before .before .before in
+    let at-if1 = back .before .before .before .before .before .before .before .before .before .if1 in
+    let at-take-in = further .before .before .before .take-in in
+    let complete = at-take-in .ensures .completed (at-if1 .taken) in
+    omega (arith, complete .below)
+
+same-length : tie.Need-same-length
+same-length c = search needs
+
+same-length-2 : tie.Need-same-length-2
+same-length-2 c = search needs
+
+same-length-3 : tie.Need-same-length-3
+same-length-3 c = search needs
+
+same-length-4 : tie.Need-same-length-4
+same-length-4 c =
+    let back = c .before .before .before .before .before .before .before .before .before .before .before .before in
+    let further = back .before .before .before .before .before .before .before .before .before .before .before .before in
+    let at-kept = further .before .before .kept in
+    at-kept .given
+
+same-length-5 : tie.Need-same-length-5
+same-length-5 c =
+    let back = c .before .before .before .before .before .before .before .before .before .before .before .before in
+    let at-line2 = c .before .before .before .line2 in
+    let at-line = back .before .before .before .before .before .before .before .before .before .before .before .before .line in
+    at-line2 .given ∙ at-line .given
+
+returns : tie.Need-returns
+returns c =
+    let back = c .before .before .before .before .before .before .before .before .before .before .before .before in
+    let further = back .before .before .before .before .before .before .before .before .before .before .before .before in
+    let r = c .before .before .before .before .before .before .before .before .before .before .«record» in
+    let end = back .before .before .before .before .before .end-of in
+    let kind = back .before .before .before .before .before .before .before .kind-of in
+    let at-if1 = back .before .before .before .before .before .before .before .before .before .if1 in
+    let t = further .before .before .before .take-in in
+    let a = further .before .before .before .before .before .before .before .before .before .before .before .before .args in
+    feeds-record (a .g) (a .bytes .now) (a .marks .now) (a .out .now) (a .kept .now) (a .piece .now) (a .line .now) (t .result) (t .last .1 .0)
+    (t .last .1 .1 .1 .0) (t .ensures)
+    (kind .result) (end .result) (r .result) (r .last .1 .0) (r .last .1 .1 .0) (r .last .1 .1 .1 .0) (r .last .1 .1 .1 .1 .1 .1 .1 .0)
+    (at-if1 .taken) (kind .ensures) (end .ensures) (r .ensures)
+
+same-length-6 : tie.Need-same-length-6
+same-length-6 c = search needs
+
+same-length-7 : tie.Need-same-length-7
+same-length-7 c = search needs
+
+returns-2 : tie.Need-returns-2
+returns-2 c =
+    let back = c .before .before .before .before .before .before .before .before .before .before .before .before in
+    let t = c .before .before .before .before .before .before .take-in in
+    let a = back .before .before .before .args in
+    feeds-passed (a .g) (a .bytes .now) (a .marks .now) (a .out .now) (a .kept .now) (a .piece .now) (a .line .now) (t .result) (t .last .1 .0)
+    (t .last .1 .1 .1 .0) (t .ensures) (c .if1 .left)
+
+pub advance-spec : {M : Type 1} → statement M
+advance-spec =
+    tie.close
+    (tie.spec
+    take-in-requires
+    kind-of-requires
+    end-of-requires
+    sub-record
+    part-record-start
+    part-record-end
+    record-requires
+    add-t30
+    same-length
+    same-length-2
+    same-length-3
+    same-length-4
+    same-length-5
+    returns
+    same-length-6
+    same-length-7
+    returns-2)

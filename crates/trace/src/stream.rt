@@ -1,0 +1,213 @@
+// Document 01, 'The trace program': where its stream of records stands, the next bytes taken in, and what is printed at its end.
+// Document 01, 'The trace program', on an input that comes in pieces: a line as soon as its record is complete.
+// Document 01, 'The trace program', on an input that is there as a whole: every record in turn, a line each.
+ghost use mathlib.Core.Path.{_≡_};
+ghost use lib.ListN.{length};
+ghost use Rattle.rules.specs.Lent.{before, after};
+ghost use Rattle.records.specs.lines.Puts.{Prints};
+ghost use Rattle.trace.specs.stream.Contract.{beginning, left, Takes, FeedsLent};
+ghost use Rattle.rules.specs.Trace.{trace};
+use super::gathering;
+use port::Port;
+use records::lines;
+
+// A port, the next record's index, how many bytes of that record have come, and whether all is done.
+pub struct Stream {
+    pub port: Port,
+    pub index: usize,
+    pub have: usize,
+    pub done: bool,
+}
+
+// What bytes of a piece come to: how many are used, where the stream stands then, the length of the line printed for them; or that
+// with them a record is complete, and is to be carried out.
+pub struct Taken {
+    pub used: usize,
+    pub have: usize,
+    pub done: bool,
+    pub length: usize,
+    pub complete: bool,
+}
+
+impl Stream {
+    // header and body as far as they are kept: a body of more than 512 bytes is malformed whatever it holds
+    pub const KEPT: usize = 517;
+
+    // no line is longer
+    pub const LINE: usize = 4123;
+
+    pub fn start() -> Stream
+        ensures { λ r. ⌜ r ≡ beginning ⌝ }
+    {
+        let port = Port::fresh();
+        Stream {
+            port: port,
+            index: 0,
+            have: 0, // nothing has come
+            done: false,
+        }
+    }
+}
+
+// the next bytes of the input, up to the end of a record
+pub fn take_in(g: Stream, kept: &mut [u8], piece: &[u8], line: &mut [u8]) -> Taken
+    requires { ⌜ length (now kept) ≡ 517 ⌝ }
+    ensures { λ r. ⌜ Takes g (before kept) (before piece) (before line) r (after kept) (after line) ⌝ }
+{
+    if g.done {
+        return Taken {
+            used: piece.len(),
+            have: g.have,
+            done: true,
+            length: 0,
+            complete: false,
+        };
+    }
+    if piece.len() == 0 {
+        return Taken {
+            used: 0,
+            have: g.have,
+            done: false,
+            length: 0,
+            complete: false,
+        };
+    }
+    if g.index >= 65535 { // 'At most 65,535 records are read'
+        let k = lines::put_full(line, g.index);
+        return Taken {
+            used: piece.len(),
+            have: 0,
+            done: true,
+            length: k,
+            complete: false,
+        };
+    }
+    let have = gathering::begun(kept, g.have);
+    let used = gathering::gather(kept, have, piece);
+    let now = have + used;
+    let open = gathering::is_open(kept, now);
+    Taken {
+        used: used,
+        have: now,
+        done: false,
+        length: 0,
+        complete: !open,
+    }
+}
+
+fn last(g: Stream, kept: &[u8], line: &mut [u8]) -> usize
+    requires { ⌜ length (now kept) ≡ 517 ⌝ }
+    ensures { λ r. ⌜ Prints (before line) (left g (before kept)) r (after line) ⌝ }
+{
+    if g.done {
+        return 0;
+    }
+    if gathering::begun(kept, g.have) == 0 {
+        return 0;
+    }
+    if g.index >= 65535 { // 'one more, even cut, prints its index and `full`'
+        return lines::put_full(line, g.index);
+    }
+    lines::put_cut(line, g.index)
+}
+
+// the input is at its end: 'A cut last record prints its index and `cut`.' The second clause says what the type of kept says.
+pub fn finish(g: Stream, kept: &[u8; Stream::KEPT], line: &mut [u8]) -> usize
+    ensures { λ r. ⌜ Prints (before line) (left g (before kept)) r (after line) ⌝ }
+    ensures { λ _. ⌜ length (before kept) ≡ 517 ⌝ }
+{
+    last(g, kept, line)
+}
+
+// The stream after a piece, how many bytes of the piece it used, and the length of the line printed for them.
+pub struct Fed {
+    pub stream: Stream,
+    pub used: usize,
+    pub length: usize,
+}
+
+fn advance(
+    g: Stream,
+    bytes: &mut [u8],
+    marks: &mut [u8],
+    out: &mut [u8],
+    kept: &mut [u8],
+    piece: &[u8],
+    line: &mut [u8],
+) -> Fed
+    requires { ⌜ length (now kept) ≡ 517 ⌝ }
+    ensures { λ r. ⌜ FeedsLent g bytes marks out kept piece line r ⌝ }
+{
+    let t = take_in(g, kept, piece, line);
+    let port = g.port;
+    if t.complete {
+        let kind = gathering::kind_of(kept);
+        let to = gathering::end_of(kept);
+        let r = super::record(port, bytes, marks, out, g.index, kind, &kept[4..to], line);
+        let after = r.port;
+        return Fed {
+            stream: Stream {
+                port: after,
+                index: g.index + 1,
+                have: 0,
+                done: false,
+            },
+            used: t.used,
+            length: r.length,
+        };
+    }
+    Fed {
+        stream: Stream {
+            port: port,
+            index: g.index,
+            have: t.have,
+            done: t.done,
+        },
+        used: t.used,
+        length: t.length,
+    }
+}
+
+// the next bytes of the input, up to the end of a record
+pub fn feed(
+    g: Stream,
+    bytes: &mut [u8],
+    marks: &mut [u8],
+    out: &mut [u8],
+    kept: &mut [u8; Stream::KEPT],
+    piece: &[u8],
+    line: &mut [u8],
+) -> Fed
+    ensures { λ r. ⌜ FeedsLent g bytes marks out kept piece line r ⌝ }
+{
+    advance(g, bytes, marks, out, kept, piece, line)
+}
+
+// the lines of the whole input from a fresh port, as much of them as dst holds
+pub fn whole(input: &[u8], dst: &mut [u8]) -> usize
+    ensures { λ r. ⌜ Prints (before dst) (trace (before input)) r (after dst) ⌝ }
+{
+    let mut bytes = [0u8; Port::INPUT];
+    let mut marks = [0u8; Port::INPUT];
+    let mut out = [0u8; Port::OUTPUT];
+    let mut kept = [0u8; Stream::KEPT];
+    let mut s = Stream::start();
+    let mut at = 0;
+    let mut written = 0;
+    while at < input.len() {
+        let f = feed(
+            s,
+            &mut bytes,
+            &mut marks,
+            &mut out,
+            &mut kept,
+            &input[at..],
+            &mut dst[written..],
+        );
+        s = f.stream;
+        at += f.used;
+        written += f.length;
+    }
+    let k = finish(s, &kept, &mut dst[written..]);
+    written + k
+}
