@@ -19,13 +19,13 @@ use Rattle.rules.specs.Output as rule
 use Rattle.rules.specs.Step.{setOn, aReadWaits}
 use Rattle.rules.specs.Settings.{acceptable}
 use Rattle.rules.specs.Verdicts as verdict
-use Rattle.port.specs.State.{places, sizes, get}
-use Rattle.port.specs.Sending.{Outcomes, refused, written, transmitted, result}
+use Rattle.port.specs.State.{capacity, sizes, get}
+use Rattle.port.specs.Sending.{Outcomes, refused, afterWrite, afterTransmit, result}
 use Rattle.port.specs.declared.Port.{Port}
 use Rattle.port.specs.declared.Answered.{Answered}
 use Rattle.discipline.proofs.sending.Laws.{size-written}
 use Rattle.discipline.proofs.sending.Promises.{for-any-input, state-written, transmits-for-any-input, state-transmitted}
-use Rattle.port.specs.Calls.{stepOf, Calls, Asks, grouped, cancelled, answered}
+use Rattle.port.specs.Calls.{stepOf, Calls, Asks, grouped, cancelled, unchanged}
 use Rattle.discipline.proofs.events.Promises.{received-now, flushed-now}
 use Rattle.discipline.proofs.verdicts.Promises.{grouped-now, read-judged, write-judged, settings-judged}
 use Rattle.discipline.specs.changes.Contract.{Sets}
@@ -48,16 +48,16 @@ module _ (p : Port) (os src : List ℕ) where
   abbrev w : State × Reply
   w = rule.write (sizes p [] [] os) (get p [] [] os) src
 
-  written-answer : written p os src .answer ≡ w .1 .answer
-  unfolding written
+  written-answer : afterWrite p os src .answer ≡ w .1 .answer
+  unfolding afterWrite
   written-answer = either-of (λ (o : Outcomes). o .answer ≡ w .1 .answer) (refused (w .1 .answer)) refl refl
 
-  written-lent : written p os src .lent ≡ src
-  unfolding written
+  written-lent : afterWrite p os src .lent ≡ src
+  unfolding afterWrite
   written-lent = either-of (λ (o : Outcomes). o .lent ≡ src) (refused (w .1 .answer)) refl refl
 
-  written-line : written p os src .port .line ≡ p .line
-  unfolding written
+  written-line : afterWrite p os src .port .line ≡ p .line
+  unfolding afterWrite
   written-line = either-of (λ (o : Outcomes). o .port .line ≡ p .line) (refused (w .1 .answer)) refl refl
 
 -- and its reply hands out nothing
@@ -105,10 +105,10 @@ module _ (p : Port) (bs ms os lent : List ℕ) (r : Answered) where
 
   ---- A write and a transmit
 
-  pub steps-write : (os′ lent′ : List ℕ) → result r os′ lent′ ≡ written p os lent → Steps p bs ms os Write lent r bs ms os′ lent′
+  pub steps-write : (os′ lent′ : List ℕ) → result r os′ lent′ ≡ afterWrite p os lent → Steps p bs ms os Write lent r bs ms os′ lent′
   steps-write os′ lent′ e =
-      let port : r .port ≡ written p os lent .port = ap (λ (y : Outcomes). y .port) e in
-      let slice : os′ ≡ written p os lent .slice = ap (λ (y : Outcomes). y .slice) e in
+      let port : r .port ≡ afterWrite p os lent .port = ap (λ (y : Outcomes). y .port) e in
+      let slice : os′ ≡ afterWrite p os lent .slice = ap (λ (y : Outcomes). y .slice) e in
       record {
         answer = ap (λ (y : Outcomes). y .answer) e ∙ written-answer p os lent ∙ ap (λ (y : Reply). y .answer) (sym (for-any-input p bs ms os lent));
         buffer = ap (λ (y : Outcomes). y .lent) e ∙ written-lent p os lent ∙ sym (write-silent p bs ms os lent);
@@ -116,17 +116,17 @@ module _ (p : Port) (bs ms os lent : List ℕ) (r : Answered) where
             record {
               state = ap₂ (λ (y : Port) (l : List ℕ). get y bs ms l) port slice ∙ state-written p bs ms os lent;
               sizes =
-                  ap₂ (λ (k n : ℕ). record { line = k; input = places bs ms; output = n }) (ap (λ (y : Port). y .line) port ∙ written-line p os lent)
+                  ap₂ (λ (k n : ℕ). record { line = k; input = capacity bs ms; output = n }) (ap (λ (y : Port). y .line) port ∙ written-line p os lent)
                   (ap length slice ∙ size-written p os lent);
             };
         exact = (e, refl, refl);
       }
 
-  pub steps-transmit : (lent′ : List ℕ) → result r os lent′ ≡ transmitted p os lent → Steps p bs ms os Transmit lent r bs ms os lent′
-  unfolding transmitted
+  pub steps-transmit : (lent′ : List ℕ) → result r os lent′ ≡ afterTransmit p os lent → Steps p bs ms os Transmit lent r bs ms os lent′
+  unfolding afterTransmit
   steps-transmit lent′ e =
-      let port : r .port ≡ transmitted p os lent .port = ap (λ (y : Outcomes). y .port) e in
-      let slice : os ≡ transmitted p os lent .slice = ap (λ (y : Outcomes). y .slice) e in
+      let port : r .port ≡ afterTransmit p os lent .port = ap (λ (y : Outcomes). y .port) e in
+      let slice : os ≡ afterTransmit p os lent .slice = ap (λ (y : Outcomes). y .slice) e in
       record {
         answer = ap (λ (y : Outcomes). y .answer) e ∙ ap (λ (y : Reply). y .answer) (sym (transmits-for-any-input p bs ms os (length lent)));
         buffer = ap (λ (y : Outcomes). y .lent) e ∙ ap (lentAfter lent) (sym (transmits-for-any-input p bs ms os (length lent)));
@@ -174,7 +174,7 @@ module _ (p : Port) (bs ms os lent : List ℕ) (r : Answered) where
     abbrev t : Bool
     t = verdict.tooLarge (who .group) || eqb (who .group) 0
 
-    pub steps-read-verdict : r ≡ answered p (stepOf p [] [] [] (ReadVerdict who) []) → Steps p bs ms os (ReadVerdict who) lent r bs ms os lent
+    pub steps-read-verdict : r ≡ unchanged p (stepOf p [] [] [] (ReadVerdict who) []) → Steps p bs ms os (ReadVerdict who) lent r bs ms os lent
     steps-read-verdict e =
         let n = read-judged p bs ms os who r e in
         record {
@@ -184,7 +184,7 @@ module _ (p : Port) (bs ms os lent : List ℕ) (r : Answered) where
           exact = (e, refl);
         }
 
-    pub steps-write-verdict : r ≡ answered p (stepOf p [] [] [] (WriteVerdict who) []) → Steps p bs ms os (WriteVerdict who) lent r bs ms os lent
+    pub steps-write-verdict : r ≡ unchanged p (stepOf p [] [] [] (WriteVerdict who) []) → Steps p bs ms os (WriteVerdict who) lent r bs ms os lent
     steps-write-verdict e =
         let n = write-judged p bs ms os who r e in
         record {
@@ -194,7 +194,7 @@ module _ (p : Port) (bs ms os lent : List ℕ) (r : Answered) where
           exact = (e, refl);
         }
 
-    pub steps-settings-verdict : r ≡ answered p (stepOf p [] [] [] (SettingsVerdict who) []) → Steps p bs ms os (SettingsVerdict who) lent r bs ms os lent
+    pub steps-settings-verdict : r ≡ unchanged p (stepOf p [] [] [] (SettingsVerdict who) []) → Steps p bs ms os (SettingsVerdict who) lent r bs ms os lent
     steps-settings-verdict e =
         let n = settings-judged p bs ms os who r e in
         record {

@@ -3,7 +3,7 @@ use mathlib.Core.Path.{_≡_, sym, _∙_}
 use Rattle.rules.specs.declared.Call.{Call}
 use Rattle.rules.specs.declared.Call.the-variants.{Set, Receive, Read, Write, Transmit, Flush, Cancel, Foreground, ReadVerdict, WriteVerdict}
 use Rattle.rules.specs.declared.Call.the-variants.{SettingsVerdict}
-use Rattle.port.specs.Sending.{written, transmitted}
+use Rattle.port.specs.Sending.{afterWrite, afterTransmit}
 use Rattle.port.specs.declared.Port.{Port}
 use Rattle.port.specs.declared.Answered.{Answered}
 use Rattle.port.proofs.Results.{one-answer}
@@ -23,10 +23,10 @@ one-exact p h (Receive e) r q k j a b =
 one-exact p h (Read nonblocking) r q k j a b =
     let s = one-taken (a .0) (b .0) in (s .0, held-is k j (a .1 ∙ sym (b .1)) (a .2 ∙ sym (b .2)) (a .3 ∙ sym (b .3)) (s .1))
 one-exact p h Write r q k j a b =
-    let s = one-answer (written p (h .out) (h .lent)) r q (k .out) (j .out) (k .lent) (j .lent) (a .0) (b .0) in
+    let s = one-answer (afterWrite p (h .out) (h .lent)) r q (k .out) (j .out) (k .lent) (j .lent) (a .0) (b .0) in
     (s .0, held-is k j (a .1 ∙ sym (b .1)) (a .2 ∙ sym (b .2)) (s .1) (s .2))
 one-exact p h Transmit r q k j a b =
-    let s = one-answer (transmitted p (h .out) (h .lent)) r q (k .out) (j .out) (k .lent) (j .lent) (a .0) (b .0) in
+    let s = one-answer (afterTransmit p (h .out) (h .lent)) r q (k .out) (j .out) (k .lent) (j .lent) (a .0) (b .0) in
     (s .0, held-is k j (a .1 ∙ sym (b .1)) (a .2 ∙ sym (b .2)) (s .1) (s .2))
 one-exact p h (Flush choice) r q k j a b = (one-asked (a .0) (b .0), a .1 ∙ sym (b .1))
 one-exact p h Cancel r q k j a b = (a .0 ∙ sym (b .0), a .1 ∙ sym (b .1))

@@ -6,10 +6,10 @@ use Rattle.rules.specs.declared.Call.{Call}
 use Rattle.rules.specs.declared.Call.the-variants.{Set, Receive, Read, Write, Transmit, Flush, Cancel, Foreground, ReadVerdict, WriteVerdict}
 use Rattle.rules.specs.declared.Call.the-variants.{SettingsVerdict}
 use Rattle.rules.specs.Refusals.{lentAfter}
-use Rattle.port.specs.Sending.{result, written, transmitted}
+use Rattle.port.specs.Sending.{result, afterWrite, afterTransmit}
 use Rattle.port.specs.declared.Port.{Port}
 use Rattle.port.specs.declared.Answered.{Answered}
-use Rattle.port.specs.Calls.{stepOf, Calls, Asks, grouped, cancelled, answered, Now}
+use Rattle.port.specs.Calls.{stepOf, Calls, Asks, grouped, cancelled, unchanged, Now}
 use Rattle.discipline.specs.changes.Contract.{Sets}
 use Rattle.discipline.specs.reads.Contract.{Reads}
 
@@ -28,14 +28,14 @@ Exact p h (Receive e) r k =
     Calls p (h .bytes) (h .marks) (h .out) (stepOf p (h .bytes) (h .marks) (h .out) (Receive e) []) r (k .bytes) (k .marks) (k .out) × (k .lent ≡ h .lent)
 Exact p h (Read nonblocking) r k =
     Reads p (h .bytes) (h .marks) (h .lent) nonblocking r (k .lent) × (k .bytes ≡ h .bytes) × (k .marks ≡ h .marks) × (k .out ≡ h .out)
-Exact p h Write r k = (result r (k .out) (k .lent) ≡ written p (h .out) (h .lent)) × (k .bytes ≡ h .bytes) × (k .marks ≡ h .marks)
-Exact p h Transmit r k = (result r (k .out) (k .lent) ≡ transmitted p (h .out) (h .lent)) × (k .bytes ≡ h .bytes) × (k .marks ≡ h .marks)
+Exact p h Write r k = (result r (k .out) (k .lent) ≡ afterWrite p (h .out) (h .lent)) × (k .bytes ≡ h .bytes) × (k .marks ≡ h .marks)
+Exact p h Transmit r k = (result r (k .out) (k .lent) ≡ afterTransmit p (h .out) (h .lent)) × (k .bytes ≡ h .bytes) × (k .marks ≡ h .marks)
 Exact p h (Flush choice) r k = Asks p (h .bytes) (h .marks) (h .out) (stepOf p (h .bytes) (h .marks) (h .out) (Flush choice) []) r × (k ≡ h)
 Exact p h Cancel r k = (r ≡ cancelled p (stepOf p [] [] [] Cancel [])) × (k ≡ h)
 Exact p h (Foreground group orphaned) r k = (r ≡ grouped p (stepOf p [] [] [] (Foreground group orphaned) [])) × (k ≡ h)
-Exact p h (ReadVerdict who) r k = (r ≡ answered p (stepOf p [] [] [] (ReadVerdict who) [])) × (k ≡ h)
-Exact p h (WriteVerdict who) r k = (r ≡ answered p (stepOf p [] [] [] (WriteVerdict who) [])) × (k ≡ h)
-Exact p h (SettingsVerdict who) r k = (r ≡ answered p (stepOf p [] [] [] (SettingsVerdict who) [])) × (k ≡ h)
+Exact p h (ReadVerdict who) r k = (r ≡ unchanged p (stepOf p [] [] [] (ReadVerdict who) [])) × (k ≡ h)
+Exact p h (WriteVerdict who) r k = (r ≡ unchanged p (stepOf p [] [] [] (WriteVerdict who) [])) × (k ≡ h)
+Exact p h (SettingsVerdict who) r k = (r ≡ unchanged p (stepOf p [] [] [] (SettingsVerdict who) [])) × (k ≡ h)
 
 -- The rules' step: its answer, the lent buffer after it, its next state, at the same sizes; and every byte.
 pub record Stepped (p : Port) (h : Held) (call : Call) (r : Answered) (k : Held) : Type 0 where

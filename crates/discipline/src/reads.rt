@@ -5,7 +5,7 @@ ghost use mathlib.Core.Path.{_≡_};
 ghost use Rattle.rules.specs.Lent.{before, after};
 ghost use Rattle.input.specs.Contract.{Sound};
 ghost use Rattle.port.specs.Layers.{assembled};
-ghost use Rattle.discipline.specs.reads.Contract.{TakesBy, done, «finds», Reads};
+ghost use Rattle.discipline.specs.reads.Contract.{ReadsBy, done, «finds», Reads};
 ghost use Rattle.port.specs.Calls.{stepOf, cancelled};
 ghost use mathlib.Core.List.{[]};
 ghost use Rattle.rules.specs.Reads as rule;
@@ -30,7 +30,7 @@ pub fn with_read(p: Port, input: Input, waiting: Waiting) -> Port
 // The read is done: no read waits any more.
 pub fn finish(p: Port, i: Input, bytes: &[u8], marks: &[u8], dst: &mut [u8]) -> Answered
     requires { ⌜ Sound i (now bytes) (now marks) ⌝ }
-    ensures { λ r. ⌜ TakesBy done p i (before bytes) (before marks) (before dst) r (after dst) ⌝ }
+    ensures { λ r. ⌜ ReadsBy done p i (before bytes) (before marks) (before dst) r (after dst) ⌝ }
 {
     let x = p.settings;
     if x.icanon {
@@ -67,7 +67,7 @@ pub fn ruled(
     nonblocking: bool,
 ) -> Answered
     requires { ⌜ Sound i (now bytes) (now marks) ⌝ }
-    ensures { λ r. ⌜ TakesBy (λ s n. rule.ruled s nonblocking n) p i (before bytes) (before marks) (before dst) r (after dst) ⌝ }
+    ensures { λ r. ⌜ ReadsBy (λ s n. rule.ruled s nonblocking n) p i (before bytes) (before marks) (before dst) r (after dst) ⌝ }
 {
     let x = p.settings;
     let w = p.waiting;
@@ -97,7 +97,7 @@ fn ordered(
     nonblocking: bool,
 ) -> Answered
     requires { ⌜ Sound i (now bytes) (now marks) ⌝ }
-    ensures { λ r. ⌜ TakesBy (λ s n. rule.read s nonblocking n) p i (before bytes) (before marks) (before dst) r (after dst) ⌝ }
+    ensures { λ r. ⌜ ReadsBy (λ s n. rule.read s nonblocking n) p i (before bytes) (before marks) (before dst) r (after dst) ⌝ }
 {
     let w = p.waiting;
     let n = dst.len();

@@ -24,7 +24,7 @@ fn nothing_taken(len: usize, count: usize) -> bool
 
 // 'A write takes bytes until one's whole expansion does not fit, then stops there; its count is the bytes taken.'
 pub fn write(p: Port, out: &mut [u8], src: &[u8]) -> Answered
-    ensures { λ r. ⌜ promise.result r (after out) (before src) ≡ promise.written p (before out) (before src) ⌝ }
+    ensures { λ r. ⌜ promise.result r (after out) (before src) ≡ promise.afterWrite p (before out) (before src) ⌝ }
 {
     if p.hung {
         return port::says(p, Outcome::Refused(Refusal::HungUp), 0);
@@ -43,7 +43,7 @@ pub fn write(p: Port, out: &mut [u8], src: &[u8]) -> Answered
 
 // 'Transmit hands out the oldest queued bytes, none while stopped.'
 pub fn transmit(p: Port, out: &[u8], dst: &mut [u8]) -> Answered
-    ensures { λ r. ⌜ promise.result r (before out) (after dst) ≡ promise.transmitted p (before out) (before dst) ⌝ }
+    ensures { λ r. ⌜ promise.result r (before out) (after dst) ≡ promise.afterTransmit p (before out) (before dst) ⌝ }
 {
     let o = p.output;
     let s = o.transmit(out, dst);

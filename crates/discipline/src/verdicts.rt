@@ -2,7 +2,7 @@
 // Document 01, 'Job control verdicts', for every value of port and slices.
 ghost use mathlib.Core.Path.{_≡_};
 ghost use mathlib.Core.List.{[]};
-ghost use Rattle.port.specs.Calls.{stepOf, grouped, withGroup, answered};
+ghost use Rattle.port.specs.Calls.{stepOf, grouped, withGroup, unchanged};
 ghost use Rattle.port.specs.State.{get};
 ghost use Rattle.rules.specs.Verdicts as rule;
 use port::Answered;
@@ -45,7 +45,7 @@ pub fn foreground(p: Port, group: u32, orphaned: bool) -> Answered
 
 // Refusal 2: 'a group above 2,147,483,647, or a process group of 0 in a verdict'.
 fn judged(p: Port, who: Process, v: Verdict) -> Answered
-    ensures { λ r. ⌜ r ≡ answered p (rule.judged (get p [] [] []) who v) ⌝ }
+    ensures { λ r. ⌜ r ≡ unchanged p (rule.judged (get p [] [] []) who v) ⌝ }
 {
     let group = who.group;
     if jobs::too_large(group) {
@@ -59,7 +59,7 @@ fn judged(p: Port, who: Process, v: Verdict) -> Answered
 
 // 'Job control verdicts': a background read
 pub fn read_verdict(p: Port, who: Process) -> Answered
-    ensures { λ r. ⌜ r ≡ answered p (stepOf p [] [] [] (Call.ReadVerdict who) []) ⌝ }
+    ensures { λ r. ⌜ r ≡ unchanged p (stepOf p [] [] [] (Call.ReadVerdict who) []) ⌝ }
 {
     let f = p.foreground;
     let v = jobs::read_verdict(f, who);
@@ -68,7 +68,7 @@ pub fn read_verdict(p: Port, who: Process) -> Answered
 
 // a background write
 pub fn write_verdict(p: Port, who: Process) -> Answered
-    ensures { λ r. ⌜ r ≡ answered p (stepOf p [] [] [] (Call.WriteVerdict who) []) ⌝ }
+    ensures { λ r. ⌜ r ≡ unchanged p (stepOf p [] [] [] (Call.WriteVerdict who) []) ⌝ }
 {
     let x = p.settings;
     let f = p.foreground;
@@ -78,7 +78,7 @@ pub fn write_verdict(p: Port, who: Process) -> Answered
 
 // 'Changing settings: as a write with TOSTOP set.'
 pub fn settings_verdict(p: Port, who: Process) -> Answered
-    ensures { λ r. ⌜ r ≡ answered p (stepOf p [] [] [] (Call.SettingsVerdict who) []) ⌝ }
+    ensures { λ r. ⌜ r ≡ unchanged p (stepOf p [] [] [] (Call.SettingsVerdict who) []) ⌝ }
 {
     let f = p.foreground;
     let v = jobs::settings_verdict(f, who);

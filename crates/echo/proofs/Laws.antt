@@ -12,12 +12,12 @@ use Rattle.rules.specs.Sizes.{Output as Ruled}
 use Rattle.rules.specs.Output.{queued, queuedWhole}
 use Rattle.rules.specs.Echo.{visible, echoOf, storedEcho, rubout}
 use Rattle.rules.proofs.OutputLaws.{queued-none, append-nil}
-use Rattle.output.specs.Contract.{inRange, get, Becomes}
+use Rattle.output.specs.Contract.{inRange, get, OutputBecomes, echoed, Echoes}
 use Rattle.output.specs.columns.Contract.{Measures, Extends}
 use Rattle.output.specs.declared.columns.Measure.{Measure}
 use Rattle.output.specs.declared.Output.{Output}
 use Rattle.output.proofs.Laws.{becomes, stays}
-use Rattle.echo.specs.Contract.{echoed, Echoes, ExtendsBy, bytesOf, erasedEcho, killedEcho}
+use Rattle.echo.specs.Contract.{ExtendsBy, seenBytes, erasedEcho, killedEcho}
 use Rattle.echo.specs.declared.Seen.{Seen}
 
 pub visible-caret : (x : Settings) (b : ℕ) → x .echoctl ≡ true → (b ≡ 127 → ⊥) → (b ≡ 9 → ⊥) → (b ≡ 10 → ⊥) → b < 32
@@ -37,7 +37,7 @@ whole-none N x w = by (leb (length (w .queue) + 0) N)
 -- nothing is shown: the output in range
 pub shows-none : (x : Settings) (o p : Output) (l : List ℕ) → p ≡ inRange (length l) o → Echoes x o l [] p l
 shows-none x o p l e =
-    let b : Becomes o l (get o l) (inRange (length l) o) l = stays o l in
+    let b : OutputBecomes o l (get o l) (inRange (length l) o) l = stays o l in
     becomes o p l l (get o l) (echoed x o l []) (sym (whole-none (length l) x (get o l))) (record { output = e ∙ b .output; slice = b .slice })
 
 -- the same bytes by another name
@@ -53,7 +53,7 @@ pub extends-twice : (x : Settings) (m f r : Measure) (a b : List ℕ) → Extend
 extends-twice x m f r a b s t =
     λ room c bs h. subst (λ (l : List ℕ). Measures x room c l r) (append-assoc bs a b) (t room c (bs ++ a) (s room c bs h))
 
-module _ (x : Settings) (m : Measure) (b : ℕ) (v : Seen) (e : bytesOf v ≡ visible x b) where
+module _ (x : Settings) (m : Measure) (b : ℕ) (v : Seen) (e : seenBytes v ≡ visible x b) where
   seen-as : (t : Bool) → v .pair ≡ t → cond t (94 ∷ v .byte ∷ []) (v .byte ∷ []) ≡ visible x b
   seen-as t p = ap (λ (k : Bool). cond k (94 ∷ v .byte ∷ []) (v .byte ∷ [])) (sym p) ∙ e
 

@@ -2,27 +2,15 @@
 use Prim.Native.Nat.{ℕ}
 use mathlib.Core.Bool.{cond}
 use mathlib.Core.List.{List, [], _∷_, _++_}
-use lib.ListN.{length}
 use Rattle.rules.specs.declared.Settings.{Settings}
-use Rattle.rules.specs.Sizes.{Output as Ruled}
-use Rattle.rules.specs.Output.{processed, queuedWhole}
-use Rattle.output.specs.Contract.{get, Becomes}
 use Rattle.output.specs.columns.Contract.{Measures}
 use Rattle.output.specs.declared.columns.Measure.{Measure}
-use Rattle.output.specs.declared.Output.{Output}
 use Rattle.echo.specs.declared.Seen.{Seen}
 use Rattle.rules.specs.Echo.{visible, rubout}
 
 -- a byte as itself, or a caret pair
-abbrev pub bytesOf : Seen → List ℕ
-bytesOf v = cond (v .pair) (94 ∷ v .byte ∷ []) (v .byte ∷ [])
-
--- 'Echo passes through output processing. If one event's echo does not fit whole, none is queued.'
-abbrev pub echoed : Settings → Output → List ℕ → List ℕ → Ruled
-echoed x o l bs = queuedWhole (length l) x (get o l) (processed x (o .column) bs)
-
-abbrev pub Echoes : Settings → Output → List ℕ → List ℕ → Output → List ℕ → Type 0
-Echoes x o l bs r l′ = Becomes o l (echoed x o l bs) r l′
+abbrev pub seenBytes : Seen → List ℕ
+seenBytes v = cond (v .pair) (94 ∷ v .byte ∷ []) (v .byte ∷ [])
 
 -- the bytes e behind a run that is measured
 abbrev pub ExtendsBy : Settings → Measure → List ℕ → Measure → Type 0

@@ -3,7 +3,8 @@
 ghost use mathlib.Core.Path.{_≡_};
 ghost use mathlib.Core.List.{[], _∷_, _++_};
 ghost use Rattle.rules.specs.Lent.{before, after};
-ghost use Rattle.echo.specs.Contract.{bytesOf, Echoes, ExtendsBy, erasedEcho, killedEcho};
+ghost use Rattle.echo.specs.Contract.{seenBytes, ExtendsBy, erasedEcho, killedEcho};
+ghost use Rattle.output.specs.Contract.{Echoes};
 ghost use mathlib.Core.Bool.{_&&_};
 ghost use lib.Dec.{eqb};
 ghost use Rattle.rules.specs.Echo as echo;
@@ -19,7 +20,7 @@ pub struct Seen {
 
 // 'a byte shows as itself; under ECHOCTL controls but 10 show as 94 and the byte plus 64 (63 for 127)'
 pub fn visible(x: Settings, b: u8) -> Seen
-    ensures { λ r. ⌜ bytesOf r ≡ echo.visible x b ⌝ }
+    ensures { λ r. ⌜ seenBytes r ≡ echo.visible x b ⌝ }
 {
     if x.echoctl {
         if b == 127 {

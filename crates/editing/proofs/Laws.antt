@@ -15,7 +15,7 @@ use Rattle.queue.proofs.Laws.{held-length}
 use Rattle.rules.specs.Sizes.{Place}
 use Rattle.rules.specs.Editing.{joined, units, placesOf, withoutUnits, trailing, Edit, removed, edited}
 use Rattle.rules.specs.declared.Settings.{Settings}
-use Rattle.input.specs.Contract.{all, get, lineTo, shortened, Within, Becomes}
+use Rattle.input.specs.Contract.{all, get, lineTo, shortened, Within, InputBecomes}
 use Rattle.input.specs.declared.Input.{Input}
 use Rattle.input.proofs.Laws.{places-at, all-length, line-whole, cut-becomes}
 use Rattle.editing.specs.Contract.{placeAt, placesIn, unitsTo, Line, Starts, Cuts, Removes}
@@ -286,7 +286,7 @@ units-whole i bs ms e h = ap units (line-whole i bs ms e (rw e h))
 -- The line cut there is the line edited: for x and the edit of that many units.
 module _ (i : Input) (bs ms : List ℕ) (x : Settings) (edit : Edit) (r : Run) (e : length bs ≡ length ms) (h : Within i (length ms))
     (a : Removes i bs ms (removed x edit (units (get i bs ms .current))) r) where
-  pub edited-becomes : Becomes i bs ms (edited x edit (get i bs ms)) (shortened (r .at) i) bs ms
+  pub edited-becomes : InputBecomes i bs ms (edited x edit (get i bs ms)) (shortened (r .at) i) bs ms
   unfolding get
   edited-becomes = rw (← a .line) (cut-becomes i bs ms e (r .at) (rw e h) (a .low))
 

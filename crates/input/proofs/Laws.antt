@@ -18,7 +18,7 @@ use Rattle.queue.proofs.Laws.{stores-append, put-append, held-length, held-fitt
 use Rattle.rules.specs.Sizes.{Place, Input as Ruled, used}
 use Rattle.rules.specs.Settings.{stored}
 use Rattle.rules.specs.Fit.{keptIn}
-use Rattle.input.specs.Contract.{placeOf, bit, markOf, byteOf, places, all, get, put, added, Becomes, Within, Room, Grows, TellsEnd, TellsUnit}
+use Rattle.input.specs.Contract.{placeOf, bit, markOf, byteOf, places, all, get, put, added, InputBecomes, Within, Room, Grows, TellsEnd, TellsUnit}
 use Rattle.input.specs.Contract.{fitted, shortened, lineTo, cutAt, emptied, endedIn, unitOf}
 use Rattle.input.specs.declared.Input.{Input}
 use Rattle.input.specs.declared.Unit.{Unit}
@@ -235,7 +235,7 @@ pub record After (w : Ruled) (bs ms : List ℕ) (r : Input) (bs′ ms′ : List 
 
 -- no second result fits
 pub one-input : {i : Input} {bs ms : List ℕ} {w : Ruled} {r s : Input} {bs′ ms′ cs ns : List ℕ}
-    → Becomes i bs ms w r bs′ ms′ → Becomes i bs ms w s cs ns → (r ≡ s) × (bs′ ≡ cs) × (ms′ ≡ ns)
+    → InputBecomes i bs ms w r bs′ ms′ → InputBecomes i bs ms w s cs ns → (r ≡ s) × (bs′ ≡ cs) × (ms′ ≡ ns)
 one-input h k = (h .input ∙ sym (k .input), h .bytes ∙ sym (k .bytes), h .marks ∙ sym (k .marks))
 
 put-within : (w : Ruled) (h n : ℕ) → used w ≤ n → Within (put w (h % n)) n
@@ -247,7 +247,7 @@ module _ (i : Input) (bs ms : List ℕ) (w : Ruled) (e : length bs ≡ length ms
 
   -- what is new stands behind what was held
   pub get-grown : (u : List Place) (r : Input) (bs′ ms′ : List ℕ) → stored w ≡ stored (get i bs ms) ++ u → used w ≤ length bs
-      → Becomes i bs ms w r bs′ ms′ → After w bs ms r bs′ ms′
+      → InputBecomes i bs ms w r bs′ ms′ → After w bs ms r bs′ ms′
   unfolding all
   get-grown u r bs′ ms′ es le b =
       let N : ℕ = length bs in
@@ -296,7 +296,7 @@ module _ (i : Input) (bs ms : List ℕ) (w : Ruled) (e : length bs ≡ length ms
     none-new =
         drop-of-length-le (stored w) {i = used (get i bs ms)} (omega (arith, stored-length w, fewer, used-least i bs ms e))
 
-    pub becomes-fewer : Becomes i bs ms w (put w (i .queue .head % length bs)) bs ms
+    pub becomes-fewer : InputBecomes i bs ms w (put w (i .queue .head % length bs)) bs ms
     becomes-fewer =
         record {
           input = refl;
@@ -304,7 +304,7 @@ module _ (i : Input) (bs ms : List ℕ) (w : Ruled) (e : length bs ≡ length ms
           marks = sym (ap (λ (l : List Place). stores (length ms) ms (i .queue .head % length ms + used (get i bs ms)) (map markOf l)) none-new);
         }
 
-    pub get-fewer : (r : Input) (bs′ ms′ : List ℕ) → Becomes i bs ms w r bs′ ms′ → After w bs ms r bs′ ms′
+    pub get-fewer : (r : Input) (bs′ ms′ : List ℕ) → InputBecomes i bs ms w r bs′ ms′ → After w bs ms r bs′ ms′
     unfolding all
     get-fewer r bs′ ms′ b =
         let N : ℕ = length bs in
@@ -452,7 +452,7 @@ module _ {u v : Unit} (i : Input) (bs ms : List ℕ) (e : u ≡ v) where
 module _ (i r : Input) (bs ms bs′ ms′ : List ℕ) (u : List Place) (e : length bs ≡ length ms) (h : Within i (length bs))
     (g : Grows i bs ms (map byteOf u) (map markOf u) r bs′ ms′) where
   becomes-more : (w : Ruled) → stored w ≡ stored (get i bs ms) ++ u → w .literalNext ≡ i .literal
-      → Becomes i bs ms w (record { queue = r .queue; ready = length (w .finished); literal = r .literal }) bs′ ms′
+      → InputBecomes i bs ms w (record { queue = r .queue; ready = length (w .finished); literal = r .literal }) bs′ ms′
   becomes-more w es el =
       let v : Ruled = get i bs ms in
       let used-v : used v ≡ i .queue .len = used-of i bs ms e h in
@@ -480,7 +480,7 @@ module _ (i r : Input) (bs ms bs′ ms′ : List ℕ) (u : List Place) (e : leng
   unfolding get
   literal-stays = refl
 
-  pub stores-current : (canonical : Bool) → canonical ≡ true → Becomes i bs ms (keptIn canonical (get i bs ms) u) r bs′ ms′
+  pub stores-current : (canonical : Bool) → canonical ≡ true → InputBecomes i bs ms (keptIn canonical (get i bs ms) u) r bs′ ms′
   stores-current canonical et =
       let b = becomes-more (keptIn true (get i bs ms) u) (kept-stored true (get i bs ms) u) literal-stays in
       let k : r .ready ≡ length (get i bs ms .finished) = ap (λ (x : Input). x .ready) (g .input) ∙ sym (finished-length i bs ms e h) in
@@ -493,7 +493,7 @@ module _ (i r : Input) (bs ms bs′ ms′ : List ℕ) (u : List Place) (e : leng
 
   -- all places are finished
   finishes : (s : Input) (w : Ruled) → stored w ≡ stored (get i bs ms) ++ u → w .literalNext ≡ i .literal → length (w .current) ≡ 0
-      → s ≡ record { queue = r .queue; ready = r .queue .len; literal = r .literal } → Becomes i bs ms w s bs′ ms′
+      → s ≡ record { queue = r .queue; ready = r .queue .len; literal = r .literal } → InputBecomes i bs ms w s bs′ ms′
   finishes s w es el ec er =
       let b = becomes-more w es el in
       let k : r .queue .len ≡ length (w .finished) = ap (λ (x : Input). x .queue .len) (b .input) ∙ omega (arith, ec) in
@@ -504,14 +504,14 @@ module _ (i r : Input) (bs ms bs′ ms′ : List ℕ) (u : List Place) (e : leng
       }
 
   pub stores-finished : (canonical : Bool) (s : Input) → canonical ≡ false → s ≡ record { queue = r .queue; ready = r .queue .len; literal = r .literal }
-      → Becomes i bs ms (keptIn canonical (get i bs ms) u) s bs′ ms′
+      → InputBecomes i bs ms (keptIn canonical (get i bs ms) u) s bs′ ms′
   stores-finished canonical s ef er =
       rw ef (finishes s (keptIn false (get i bs ms) u) (kept-stored false (get i bs ms) u) literal-stays refl er)
 
 pub ends-line : (i r s : Input) (bs ms bs′ ms′ : List ℕ) (p : Place) → Room i bs ms 1
     → Grows i bs ms (byteOf p ∷ []) (markOf p ∷ []) r bs′ ms′
     → s ≡ record { queue = r .queue; ready = r .queue .len; literal = r .literal }
-    → Becomes i bs ms (endedIn (get i bs ms) p) s bs′ ms′
+    → InputBecomes i bs ms (endedIn (get i bs ms) p) s bs′ ms′
 ends-line i r s bs ms bs′ ms′ p room g er =
     finishes i r bs ms bs′ ms′ (p ∷ []) (room .same) (room .within) g s (endedIn (get i bs ms) p) (ended-stored (get i bs ms) p)
     (literal-stays i r bs ms bs′ ms′ (p ∷ []) (room .same) (room .within) g) refl er
@@ -585,7 +585,7 @@ cut-of i q n at gone h eg eq =
     ∙ numbers-are (i .queue .head % n) (i .queue .head) _ (min (i .queue .len) at) (i .ready) (i .ready) (i .literal) (i .literal) (h .head) k refl refl
 
 module _ (i : Input) (bs ms : List ℕ) (e : length bs ≡ length ms) where
-  pub flush-becomes : Becomes i bs ms emptied (put emptied (i .queue .head % length bs)) bs ms
+  pub flush-becomes : InputBecomes i bs ms emptied (put emptied (i .queue .head % length bs)) bs ms
   flush-becomes = becomes-fewer i bs ms emptied e 0 refl
 
   -- the whole current line
@@ -604,7 +604,7 @@ module _ (i : Input) (bs ms : List ℕ) (e : length bs ≡ length ms) where
       ∙ take-append-drop (i .ready) (take at a)
       ∙ ap (take at) (sym (stored-all i bs ms))
 
-  pub cut-becomes : (at : ℕ) → Within i (length bs) → i .ready ≤ at → Becomes i bs ms (cutAt i bs ms at) (shortened at i) bs ms
+  pub cut-becomes : (at : ℕ) → Within i (length bs) → i .ready ≤ at → InputBecomes i bs ms (cutAt i bs ms at) (shortened at i) bs ms
   cut-becomes at h le =
       let w : Ruled = cutAt i bs ms at in
       let b = becomes-fewer i bs ms w e at (cut-stored at le) in

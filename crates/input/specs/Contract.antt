@@ -58,7 +58,7 @@ added v w = drop (used v) (stored w)
 
 -- After the call the input is w; its oldest place stays where it was, what is new stands behind what was held, and every
 -- other place of both slices is as it was.
-pub record Becomes (i : Input) (bs ms : List ℕ) (w : Ruled) (r : Input) (bs′ ms′ : List ℕ) : Type 0 where
+pub record InputBecomes (i : Input) (bs ms : List ℕ) (w : Ruled) (r : Input) (bs′ ms′ : List ℕ) : Type 0 where
   pub input : r ≡ put w (i .queue .head % length bs)
   pub bytes : bs′ ≡ stores (length bs) bs (i .queue .head % length bs + used (get i bs ms)) (map byteOf (added (get i bs ms) w))
   pub marks : ms′ ≡ stores (length ms) ms (i .queue .head % length ms + used (get i bs ms)) (map markOf (added (get i bs ms) w))

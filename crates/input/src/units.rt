@@ -7,7 +7,7 @@ ghost use mathlib.Core.Bool.{false};
 ghost use lib.ListN.{length};
 ghost use Rattle.rules.specs.Lent.{before, after};
 ghost use Rattle.rules.specs.Sizes.{unit, delimiter, endOfFile};
-ghost use Rattle.input.specs.Contract.{unitOf, Within, TellsUnit, TellsEnd, get, Becomes, Room, endedIn, byteOf, markOf, Grows};
+ghost use Rattle.input.specs.Contract.{unitOf, Within, TellsUnit, TellsEnd, get, InputBecomes, Room, endedIn, byteOf, markOf, Grows};
 ghost use mathlib.Core.List.{map};
 ghost use Rattle.rules.specs.Fit.{keptIn};
 ghost use Rattle.rules.specs.Received as steps;
@@ -84,7 +84,7 @@ pub fn end_fits(i: Input, n: usize) -> bool
 // the current line ends with a delimiter
 pub fn end(i: Input, bytes: &mut [u8], marks: &mut [u8], b: u8) -> Input
     requires { ⌜ Room i (now bytes) (now marks) 1 ⌝ }
-    ensures { λ r. ⌜ Becomes i (before bytes) (before marks) (endedIn (get i (before bytes) (before marks)) (delimiter b)) r (after bytes) (after marks) ⌝ }
+    ensures { λ r. ⌜ InputBecomes i (before bytes) (before marks) (endedIn (get i (before bytes) (before marks)) (delimiter b)) r (after bytes) (after marks) ⌝ }
 {
     let longer = super::add(i, bytes, marks, b, 3);
     super::all_ready(longer)
@@ -93,7 +93,7 @@ pub fn end(i: Input, bytes: &mut [u8], marks: &mut [u8], b: u8) -> Input
 // the current line ends with an end-of-file mark
 pub fn end_of_file(i: Input, bytes: &mut [u8], marks: &mut [u8]) -> Input
     requires { ⌜ Room i (now bytes) (now marks) 1 ⌝ }
-    ensures { λ r. ⌜ Becomes i (before bytes) (before marks) (endedIn (get i (before bytes) (before marks)) endOfFile) r (after bytes) (after marks) ⌝ }
+    ensures { λ r. ⌜ InputBecomes i (before bytes) (before marks) (endedIn (get i (before bytes) (before marks)) endOfFile) r (after bytes) (after marks) ⌝ }
 {
     let longer = super::add(i, bytes, marks, 0, 7);
     super::all_ready(longer)
@@ -121,7 +121,7 @@ fn add_unit(i: Input, bytes: &mut [u8], marks: &mut [u8], u: Unit) -> Input
 // a unit; without ICANON all that is stored is readable
 pub fn store(i: Input, bytes: &mut [u8], marks: &mut [u8], canonical: bool, u: Unit) -> Input
     requires { ⌜ Room i (now bytes) (now marks) (length (unitOf u)) ⌝ }
-    ensures { λ r. ⌜ Becomes i (before bytes) (before marks) (keptIn canonical (get i (before bytes) (before marks)) (unitOf u)) r (after bytes) (after marks) ⌝ }
+    ensures { λ r. ⌜ InputBecomes i (before bytes) (before marks) (keptIn canonical (get i (before bytes) (before marks)) (unitOf u)) r (after bytes) (after marks) ⌝ }
 {
     let longer = add_unit(i, bytes, marks, u);
     if canonical {

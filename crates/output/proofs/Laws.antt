@@ -15,7 +15,7 @@ use Rattle.rules.specs.declared.Settings.{Settings}
 use Rattle.rules.specs.Sizes.{Output as Ruled}
 use Rattle.rules.specs.Output.{columnAfter, queued, queuedWhole}
 use Rattle.rules.proofs.OutputLaws.{queued-append, queued-none}
-use Rattle.output.specs.Contract.{inRange, get, put, Becomes}
+use Rattle.output.specs.Contract.{inRange, get, put, OutputBecomes}
 use Rattle.output.specs.declared.Output.{Output}
 
 pub get-length : (o : Output) (l : List ℕ) → length (get o l .queue) ≡ min (o .queue .len) (length l)
@@ -30,7 +30,7 @@ pub get-put : (w : Ruled) (h : ℕ) (l : List ℕ) → length (w .queue) ≤ len
 unfolding get
 get-put w h l le = ap (λ (c : List ℕ). record { queue = c; column = w .column; stopped = w .stopped }) (held-laid h l (w .queue) le)
 
-module _ (o r : Output) (l l′ : List ℕ) (w : Ruled) (b : Becomes o l w r l′) where
+module _ (o r : Output) (l l′ : List ℕ) (w : Ruled) (b : OutputBecomes o l w r l′) where
   pub same-size : length l′ ≡ length l
   same-size = ap length (b .slice) ∙ stores-length (length l) (o .queue .head % length l) l (w .queue)
 
@@ -52,7 +52,7 @@ module _ (o r : Output) (l l′ : List ℕ) (w : Ruled) (b : Becomes o l w r l�
 
   -- and more behind it
   pub and-then : (x : Settings) (e : List ℕ) (t : Output) (k : List ℕ) → length (w .queue) ≤ length l
-      → Becomes r l′ (queued x w e) t k → Becomes o l (queued x w e) t k
+      → OutputBecomes r l′ (queued x w e) t k → OutputBecomes o l (queued x w e) t k
   and-then x e t k le c =
       let g : ℕ = o .queue .head % length l in
       let h : r .queue .head % length l′ ≡ g =
@@ -68,7 +68,7 @@ module _ (o r : Output) (l l′ : List ℕ) (w : Ruled) (b : Becomes o l w r l�
       }
 
 -- another name for the same
-pub becomes : (o r : Output) (l l′ : List ℕ) (w v : Ruled) → w ≡ v → Becomes o l w r l′ → Becomes o l v r l′
+pub becomes : (o r : Output) (l l′ : List ℕ) (w v : Ruled) → w ≡ v → OutputBecomes o l w r l′ → OutputBecomes o l v r l′
 becomes o r l l′ w v e b =
     record {
       output = b .output ∙ ap (λ (y : Ruled). put y (o .queue .head % length l)) e;
@@ -76,7 +76,7 @@ becomes o r l l′ w v e b =
     }
 
 -- nothing changes but that the numbers are in range
-pub stays : (o : Output) (l : List ℕ) → Becomes o l (get o l) (inRange (length l) o) l
+pub stays : (o : Output) (l : List ℕ) → OutputBecomes o l (get o l) (inRange (length l) o) l
 unfolding get
 stays o l =
     record {
@@ -84,13 +84,13 @@ stays o l =
       slice = laid-again (o .queue) l;
     }
 
-pub stays-none : (x : Settings) (o : Output) (l : List ℕ) → Becomes o l (queued x (get o l) []) (inRange (length l) o) l
+pub stays-none : (x : Settings) (o : Output) (l : List ℕ) → OutputBecomes o l (queued x (get o l) []) (inRange (length l) o) l
 stays-none x o l = becomes o (inRange (length l) o) l l (get o l) (queued x (get o l) []) (sym (queued-none x (get o l))) (stays o l)
 
 -- a byte pushed, and the column after it
 pub pushed : (x : Settings) (o : Output) (l l′ : List ℕ) (q : Queue) (b c : ℕ) → o .queue .len < length l → c ≡ columnAfter x (o .column) b
     → Holds (o .queue) l (appended (length l) (held (o .queue) l) (b ∷ [])) q l′
-    → Becomes o l (queued x (get o l) (b ∷ [])) (record { queue = q; column = c; stopped = o .stopped }) l′
+    → OutputBecomes o l (queued x (get o l) (b ∷ [])) (record { queue = q; column = c; stopped = o .stopped }) l′
 unfolding get
 pushed x o l l′ q b c lt ec h =
     let k : Holds (o .queue) l (held (o .queue) l ++ (b ∷ [])) q l′ = holds-room (o .queue) q l l′ (b ∷ []) (omega arith) h in
@@ -103,11 +103,11 @@ pushed x o l l′ q b c lt ec h =
 
 -- two runs, one behind the other
 pub twice : (x : Settings) (o p r : Output) (l m k a b : List ℕ) → length (get o l .queue) + length a ≤ length l
-    → Becomes o l (queued x (get o l) a) p m → Becomes p m (queued x (get p m) b) r k → Becomes o l (queued x (get o l) (a ++ b)) r k
+    → OutputBecomes o l (queued x (get o l) a) p m → OutputBecomes p m (queued x (get p m) b) r k → OutputBecomes o l (queued x (get o l) (a ++ b)) r k
 twice x o p r l m k a b le f s =
     let w : Ruled = queued x (get o l) a in
     let fit : length (w .queue) ≤ length l = rw length-append le in
-    let again : Becomes p m (queued x w b) r k =
+    let again : OutputBecomes p m (queued x w b) r k =
     becomes p r m k (queued x (get p m) b) (queued x w b) (ap (λ (y : Ruled). queued x y b) (get-after o p l m w f fit)) s in
     becomes o r l k (queued x w b) (queued x (get o l) (a ++ b)) (sym (queued-append x (get o l) a b)) (and-then o p l m w f x b r k fit again)
 
@@ -119,7 +119,7 @@ pub whole-full : (N : ℕ) (x : Settings) (o : Ruled) (e : List ℕ) → N < len
 whole-full N x o e lt = rw (lt-leb (length (o .queue) + length e) N lt)
 
 -- how many are queued after a run
-pub len-now : (x : Settings) (o r : Output) (l l′ e : List ℕ) → Becomes o l (queued x (get o l) e) r l′
+pub len-now : (x : Settings) (o r : Output) (l l′ e : List ℕ) → OutputBecomes o l (queued x (get o l) e) r l′
     → r .queue .len ≡ min (o .queue .len) (length l) + length e
 len-now x o r l l′ e b =
     len-after o r l l′ (queued x (get o l) e) b ∙ length-append (get o l .queue) e ∙ ap (λ (k : ℕ). k + length e) (get-length o l)
@@ -129,8 +129,8 @@ unfolding get
 get-range o l = ap (λ (c : List ℕ). record { queue = c; column = o .column; stopped = o .stopped }) (held-fitted (o .queue) l)
 
 -- from the output in range
-pub via-range : (o p r : Output) (l l′ : List ℕ) (f : Ruled → Ruled) → p ≡ inRange (length l) o → Becomes p l (f (get p l)) r l′
-    → Becomes o l (f (get o l)) r l′
+pub via-range : (o p r : Output) (l l′ : List ℕ) (f : Ruled → Ruled) → p ≡ inRange (length l) o → OutputBecomes p l (f (get p l)) r l′
+    → OutputBecomes o l (f (get o l)) r l′
 via-range o p r l l′ f e b =
     let g : get p l ≡ get o l = ap (λ (y : Output). get y l) e ∙ get-range o l in
     let h : p .queue .head % length l ≡ o .queue .head % length l =
@@ -158,30 +158,30 @@ module _ (x : Settings) (o p : Output) (l : List ℕ) (e : p ≡ inRange (length
   range-get = get-length p l ∙ omega (arith, range-len)
 
   -- a run begins
-  pub start-run : Becomes p l (queued x (get p l) []) p l
+  pub start-run : OutputBecomes p l (queued x (get p l) []) p l
   start-run =
       let same : inRange (length l) p ≡ p = ap (inRange (length l)) e ∙ range-again (length l) o ∙ sym e in
-      let b : Becomes p l (queued x (get p l) []) (inRange (length l) p) l = stays-none x p l in
+      let b : OutputBecomes p l (queued x (get p l) []) (inRange (length l) p) l = stays-none x p l in
       record { output = sym same ∙ b .output; slice = b .slice }
 
   -- whole, if it fits
-  pub fits-of : (r : Output) (l′ f : List ℕ) → p .queue .len + length f ≤ length l → Becomes p l (queued x (get p l) f) r l′
-      → Becomes o l (queuedWhole (length l) x (get o l) f) r l′
+  pub fits-of : (r : Output) (l′ f : List ℕ) → p .queue .len + length f ≤ length l → OutputBecomes p l (queued x (get p l) f) r l′
+      → OutputBecomes o l (queuedWhole (length l) x (get o l) f) r l′
   fits-of r l′ f le b =
       via-range o p r l l′ (λ (w : Ruled). queuedWhole (length l) x w f) e
       (becomes p r l l′ (queued x (get p l) f) (queuedWhole (length l) x (get p l) f) (sym (whole-fits (length l) x (get p l) f (rw range-get le))) b)
 
   -- not at all, if it does not
-  pub full-of : (f : List ℕ) → length l < p .queue .len + length f → Becomes o l (queuedWhole (length l) x (get o l) f) p l
+  pub full-of : (f : List ℕ) → length l < p .queue .len + length f → OutputBecomes o l (queuedWhole (length l) x (get o l) f) p l
   full-of f lt =
       let w : queuedWhole (length l) x (get o l) f ≡ get o l = whole-full (length l) x (get o l) f (rw get-length (omega (arith, range-len))) in
-      let b : Becomes o l (get o l) (inRange (length l) o) l = stays o l in
+      let b : OutputBecomes o l (get o l) (inRange (length l) o) l = stays o l in
       becomes o p l l (get o l) (queuedWhole (length l) x (get o l) f) (sym w) (record { output = e ∙ b .output; slice = b .slice })
 
 ---- put
 
 -- nothing to put: the output in range
-pub range-none : (x : Settings) (o p : Output) (l : List ℕ) → p ≡ inRange (length l) o → Becomes o l (queued x (get o l) []) p l
+pub range-none : (x : Settings) (o p : Output) (l : List ℕ) → p ≡ inRange (length l) o → OutputBecomes o l (queued x (get o l) []) p l
 range-none x o p l e =
-    let b : Becomes o l (queued x (get o l) []) (inRange (length l) o) l = stays-none x o l in
+    let b : OutputBecomes o l (queued x (get o l) []) (inRange (length l) o) l = stays-none x o l in
     record { output = e ∙ b .output; slice = b .slice }

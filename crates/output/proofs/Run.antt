@@ -14,12 +14,12 @@ use Rattle.rules.specs.Sizes.{Output as Ruled}
 use Rattle.rules.specs.Output.{expand, columnAfter, columnsAfter, processed, queued, queuedWhole, written, taken}
 use Rattle.rules.specs.Echo.{rubout}
 use Rattle.rules.proofs.OutputLaws.{written-next}
-use Rattle.output.specs.Contract.{inRange, get, Becomes, Writes, takes}
+use Rattle.output.specs.Contract.{inRange, get, OutputBecomes, Writes, takes}
 use Rattle.output.specs.columns.Contract.{Measures, Extends}
 use Rattle.output.specs.declared.Output.{Output}
 use Rattle.output.specs.declared.Wrote.{Wrote}
 use Rattle.output.specs.declared.columns.Measure.{Measure}
-use Rattle.output.specs.expansion.Contract.{bytesOf}
+use Rattle.output.specs.expansion.Contract.{expandedBytes}
 use Rattle.output.specs.declared.expansion.Expansion.{Expansion}
 use Rattle.output.proofs.Laws.{get-length, full-of, get-range, range-len, range-get, start-run, same-size, get-after, len-after, column-after}
 use Rattle.output.proofs.Laws.{len-now, becomes, and-then, via-range}
@@ -27,7 +27,7 @@ use Rattle.output.proofs.Laws.{len-now, becomes, and-then, via-range}
 -- after i bytes of src, from output o in range in slice l: output p and slice m
 pub record SoFar (x : Settings) (o : Output) (l src : List ℕ) (i : ℕ) (p : Output) (m : List ℕ) : Type 0 where
   pub upto : i ≤ length src
-  pub output : Becomes o l (written x (get o l) (take i src)) p m
+  pub output : OutputBecomes o l (written x (get o l) (take i src)) p m
   pub fits : p .queue .len ≤ length l
   pub rest : takes x o l src ≡ i + taken (length l) x (p .queue .len) (p .column) (drop i src)
 
@@ -76,7 +76,7 @@ module _ (x : Settings) (o : Output) (l src : List ℕ) (i : ℕ) (p : Output) (
       (ee ∙ ap (λ (k : ℕ). expand x k (getD src i 0)) (column-after o p l m (written x (get o l) (take i src)) (a .output)))
       ∙ sym (written-next x (get o l) i src lt)
 
-  pub next : (q : Output) (k : List ℕ) → p .queue .len + length e ≤ length l → Becomes p m (queued x (get p m) e) q k → SoFar x o l src (i + 1) q k
+  pub next : (q : Output) (k : List ℕ) → p .queue .len + length e ≤ length l → OutputBecomes p m (queued x (get p m) e) q k → SoFar x o l src (i + 1) q k
   unfolding so-far
   next q k le b =
       let w : Ruled = written x (get o l) (take i src) in
@@ -148,7 +148,7 @@ taken-all N x n c (b ∷ bs) le =
     rw (le-leb (n + length e) N (omega arith)) (ap suc (taken-all N x (n + length e) (columnsAfter x c e) bs (omega arith)))
 
 pub shown-of : (x : Settings) (o : Output) (l bs : List ℕ) (r : Wrote) (m : List ℕ) → length (get o l .queue) + length (processed x (o .column) bs) ≤ length l
-    → Writes x o l bs r m → Becomes o l (queuedWhole (length l) x (get o l) (processed x (o .column) bs)) (r .output) m
+    → Writes x o l bs r m → OutputBecomes o l (queuedWhole (length l) x (get o l) (processed x (o .column) bs)) (r .output) m
 unfolding get
 shown-of x o l bs r m le w =
     let t : takes x o l bs ≡ length bs = taken-all (length l) x (length (get o l .queue)) (o .column) bs le in
@@ -213,16 +213,16 @@ module _ (x : Settings) (o : Output) (l bs : List ℕ) (i : ℕ) (m : Measure) (
   all-of = rw (take-all i bs le) at (a .so)
 
   pub shows : m .fits ≡ true → (r : Wrote) (l′ : List ℕ) → Writes x o l bs r l′
-      → Becomes o l (queuedWhole (length l) x (get o l) (processed x (o .column) bs)) (r .output) l′
+      → OutputBecomes o l (queuedWhole (length l) x (get o l) (processed x (o .column) bs)) (r .output) l′
   shows t r l′ w = shown-of x o l bs r l′ (rw get-length (omega (arith, all-of .fits t .0))) w
 
   pub shows-nothing : m .fits ≡ false → (p : Output) → p ≡ inRange (length l) o
-      → Becomes o l (queuedWhole (length l) x (get o l) (processed x (o .column) bs)) p l
+      → OutputBecomes o l (queuedWhole (length l) x (get o l) (processed x (o .column) bs)) p l
   shows-nothing t p e = full-of x o p l e (processed x (o .column) bs) (omega (arith, all-of .full t, range-len x o p l e))
 
 ---- put, by what the byte turns into
 
-pub turns : (x : Settings) (o r : Output) (l l′ : List ℕ) {e j : Expansion} → e ≡ j → Becomes o l (queued x (get o l) (bytesOf j)) r l′
-    → Becomes o l (queued x (get o l) (bytesOf e)) r l′
+pub turns : (x : Settings) (o r : Output) (l l′ : List ℕ) {e j : Expansion} → e ≡ j → OutputBecomes o l (queued x (get o l) (expandedBytes j)) r l′
+    → OutputBecomes o l (queued x (get o l) (expandedBytes e)) r l′
 turns x o r l l′ {e} {j} p b =
-    becomes o r l l′ (queued x (get o l) (bytesOf j)) (queued x (get o l) (bytesOf e)) (ap (λ (k : Expansion). queued x (get o l) (bytesOf k)) (sym p)) b
+    becomes o r l l′ (queued x (get o l) (expandedBytes j)) (queued x (get o l) (expandedBytes e)) (ap (λ (k : Expansion). queued x (get o l) (expandedBytes k)) (sym p)) b

@@ -8,7 +8,7 @@ use Rattle.queue.specs.Ring.{stores}
 use Rattle.queue.specs.Queue.{held, fitted, laid}
 use Rattle.rules.specs.declared.Settings.{Settings}
 use Rattle.rules.specs.Sizes.{Output as Ruled}
-use Rattle.rules.specs.Output.{oldest, written, taken}
+use Rattle.rules.specs.Output.{oldest, written, taken, processed, queuedWhole}
 use Rattle.output.specs.declared.Output.{Output}
 use Rattle.output.specs.declared.columns.Measure.{Measure}
 use Rattle.output.specs.columns.Contract.{Measures}
@@ -28,7 +28,7 @@ abbrev pub put : Ruled → ℕ → Output
 put w h = record { queue = laid h (w .queue); column = w .column; stopped = w .stopped }
 
 -- After the call the output is w, laid from its old head on; every other place of the slice is as it was.
-pub record Becomes (o : Output) (l : List ℕ) (w : Ruled) (r : Output) (l′ : List ℕ) : Type 0 where
+pub record OutputBecomes (o : Output) (l : List ℕ) (w : Ruled) (r : Output) (l′ : List ℕ) : Type 0 where
   pub output : r ≡ put w (o .queue .head % length l)
   pub slice : l′ ≡ stores (length l) l (o .queue .head % length l) (w .queue)
 
@@ -51,4 +51,13 @@ takes x o l src = taken (length l) x (length (get o l .queue)) (o .column) src
 
 pub record Writes (x : Settings) (o : Output) (l src : List ℕ) (r : Wrote) (l′ : List ℕ) : Type 0 where
   pub count : r .count ≡ takes x o l src
-  pub output : Becomes o l (written x (get o l) (take (takes x o l src) src)) (r .output) l′
+  pub output : OutputBecomes o l (written x (get o l) (take (takes x o l src) src)) (r .output) l′
+
+---- What an echo promises
+
+-- 'Echo passes through output processing. If one event's echo does not fit whole, none is queued.'
+abbrev pub echoed : Settings → Output → List ℕ → List ℕ → Ruled
+echoed x o l bs = queuedWhole (length l) x (get o l) (processed x (o .column) bs)
+
+abbrev pub Echoes : Settings → Output → List ℕ → List ℕ → Output → List ℕ → Type 0
+Echoes x o l bs r l′ = OutputBecomes o l (echoed x o l bs) r l′

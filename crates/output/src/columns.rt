@@ -4,7 +4,7 @@ ghost use mathlib.Core.Bool.{_&&_, cond};
 ghost use lib.ListN.{replicate};
 ghost use Rattle.rules.specs.Output.{capped, columnAfter, columnsAfter};
 ghost use Rattle.output.specs.columns.Contract.{Extends};
-ghost use Rattle.output.specs.expansion.Contract.{bytesOf};
+ghost use Rattle.output.specs.expansion.Contract.{expandedBytes};
 use super::expansion;
 use super::expansion::Expansion;
 use rules::Settings;
@@ -72,7 +72,7 @@ fn column_after_spaces(x: Settings, c: u32, n: usize) -> u32
 }
 
 fn column_after(x: Settings, c: u32, e: Expansion) -> u32
-    ensures { λ r. ⌜ r ≡ columnsAfter x c (bytesOf e) ⌝ }
+    ensures { λ r. ⌜ r ≡ columnsAfter x c (expandedBytes e) ⌝ }
 {
     match e {
         Expansion::Nothing => c,

@@ -2,7 +2,7 @@
 ghost use mathlib.Core.Path.{_≡_};
 ghost use lib.ListN.{length};
 ghost use Rattle.rules.specs.Output.{expand, newline as newlineOf, return as returnOf};
-ghost use Rattle.output.specs.expansion.Contract.{bytesOf};
+ghost use Rattle.output.specs.expansion.Contract.{expandedBytes};
 use rules::Settings;
 
 // What a written byte turns into.
@@ -14,7 +14,7 @@ pub enum Expansion {
 }
 
 fn newline(x: Settings, c: u32) -> Expansion
-    ensures { λ r. ⌜ bytesOf r ≡ newlineOf x c ⌝ }
+    ensures { λ r. ⌜ expandedBytes r ≡ newlineOf x c ⌝ }
 {
     if x.onlcr {
         if x.onocr {
@@ -29,7 +29,7 @@ fn newline(x: Settings, c: u32) -> Expansion
 }
 
 fn carriage_return(x: Settings, c: u32) -> Expansion
-    ensures { λ r. ⌜ bytesOf r ≡ returnOf x c ⌝ }
+    ensures { λ r. ⌜ expandedBytes r ≡ returnOf x c ⌝ }
 {
     if x.ocrnl {
         return Expansion::Byte(10);
@@ -44,7 +44,7 @@ fn carriage_return(x: Settings, c: u32) -> Expansion
 }
 
 pub fn expand(x: Settings, c: u32, b: u8) -> Expansion
-    ensures { λ r. ⌜ bytesOf r ≡ expand x c b ⌝ }
+    ensures { λ r. ⌜ expandedBytes r ≡ expand x c b ⌝ }
 {
     if x.opost {
         if b == 4 {
@@ -71,7 +71,7 @@ pub fn expand(x: Settings, c: u32, b: u8) -> Expansion
 }
 
 pub fn width(e: Expansion) -> usize
-    ensures { λ r. ⌜ r ≡ length (bytesOf e) ⌝ }
+    ensures { λ r. ⌜ r ≡ length (expandedBytes e) ⌝ }
 {
     match e {
         Expansion::Nothing => 0,

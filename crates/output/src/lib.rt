@@ -9,11 +9,11 @@ ghost use mathlib.Core.Bool.{false};
 ghost use Prim.Native.Nat.{_%_, _+_, _<_, _≤_};
 ghost use Rattle.rules.specs.Lent.{before, after};
 ghost use Rattle.queue.specs.Queue.{laid};
-ghost use Rattle.output.specs.Contract.{inRange, Sends, Begins, get, Becomes, Writes};
+ghost use Rattle.output.specs.Contract.{inRange, Sends, Begins, get, OutputBecomes, Writes, Echoes};
 ghost use lib.ListN.{length, replicate};
-ghost use Rattle.rules.specs.Output.{queued, queuedWhole, processed};
+ghost use Rattle.rules.specs.Output.{queued, queuedWhole};
 ghost use Rattle.rules.specs.Echo.{rubout};
-ghost use Rattle.output.specs.expansion.Contract.{bytesOf};
+ghost use Rattle.output.specs.expansion.Contract.{expandedBytes};
 use columns::Measure;
 use expansion::Expansion;
 use queue::Queue;
@@ -124,7 +124,7 @@ pub struct Wrote {
 // one byte as it is, for which there is room
 fn put_byte(o: Output, x: Settings, out: &mut [u8], b: u8) -> Output
     requires { ⌜ o .queue .len < length (now out) ⌝ }
-    ensures { λ r. ⌜ Becomes o (before out) (queued x (get o (before out)) (b ∷ [])) r (after out) ⌝ }
+    ensures { λ r. ⌜ OutputBecomes o (before out) (queued x (get o (before out)) (b ∷ [])) r (after out) ⌝ }
 {
     let q = o.queue;
     let queue = q.push(out, b);
@@ -138,7 +138,7 @@ fn put_byte(o: Output, x: Settings, out: &mut [u8], b: u8) -> Output
 
 fn put_spaces(was: Output, x: Settings, out: &mut [u8], n: usize) -> Output
     requires { ⌜ was .queue .len + n ≤ length (now out) ⌝ }
-    ensures { λ r. ⌜ Becomes was (before out) (queued x (get was (before out)) (replicate n 32)) r (after out) ⌝ }
+    ensures { λ r. ⌜ OutputBecomes was (before out) (queued x (get was (before out)) (replicate n 32)) r (after out) ⌝ }
 {
     let mut o = was.fit(out.len());
     let mut i = 0;
@@ -150,8 +150,8 @@ fn put_spaces(was: Output, x: Settings, out: &mut [u8], n: usize) -> Output
 }
 
 fn put(o: Output, x: Settings, out: &mut [u8], e: Expansion) -> Output
-    requires { ⌜ o .queue .len + length (bytesOf e) ≤ length (now out) ⌝ }
-    ensures { λ r. ⌜ Becomes o (before out) (queued x (get o (before out)) (bytesOf e)) r (after out) ⌝ }
+    requires { ⌜ o .queue .len + length (expandedBytes e) ≤ length (now out) ⌝ }
+    ensures { λ r. ⌜ OutputBecomes o (before out) (queued x (get o (before out)) (expandedBytes e)) r (after out) ⌝ }
 {
     match e {
         Expansion::Nothing => o.fit(out.len()),
@@ -193,7 +193,7 @@ pub fn write(was: Output, x: Settings, out: &mut [u8], src: &[u8]) -> Wrote
 
 // an echo: all of bytes, or nothing
 pub fn show(was: Output, x: Settings, out: &mut [u8], bytes: &[u8]) -> Output
-    ensures { λ r. ⌜ Becomes was (before out) (queuedWhole (length (before out)) x (get was (before out)) (processed x (was .column) (before bytes))) r (after out) ⌝ }
+    ensures { λ r. ⌜ Echoes x was (before out) (before bytes) r (after out) ⌝ }
 {
     let n = out.len();
     let mut m = was.measure(n);
@@ -213,7 +213,7 @@ pub fn show(was: Output, x: Settings, out: &mut [u8], bytes: &[u8]) -> Output
 // 8,32,8, for which there is room
 fn rub_one(o: Output, x: Settings, out: &mut [u8]) -> Output
     requires { ⌜ o .queue .len + 3 ≤ length (now out) ⌝ }
-    ensures { λ r. ⌜ Becomes o (before out) (queued x (get o (before out)) (8 ∷ 32 ∷ 8 ∷ [])) r (after out) ⌝ }
+    ensures { λ r. ⌜ OutputBecomes o (before out) (queued x (get o (before out)) (8 ∷ 32 ∷ 8 ∷ [])) r (after out) ⌝ }
 {
     let back = put_byte(o, x, out, 8);
     let blank = put_byte(back, x, out, 32);
@@ -222,7 +222,7 @@ fn rub_one(o: Output, x: Settings, out: &mut [u8]) -> Output
 
 // 8,32,8 for each of n units, all or nothing
 pub fn rub_out(was: Output, x: Settings, out: &mut [u8], n: usize) -> Output
-    ensures { λ r. ⌜ Becomes was (before out) (queuedWhole (length (before out)) x (get was (before out)) (processed x (was .column) (rubout n))) r (after out) ⌝ }
+    ensures { λ r. ⌜ Echoes x was (before out) (rubout n) r (after out) ⌝ }
 {
     let size = out.len();
     let mut o = was.fit(size);
@@ -240,7 +240,7 @@ pub fn rub_out(was: Output, x: Settings, out: &mut [u8], n: usize) -> Output
 
 // the bell: byte 7 as it is, if there is room
 pub fn bell(was: Output, x: Settings, out: &mut [u8]) -> Output
-    ensures { λ r. ⌜ Becomes was (before out) (queuedWhole (length (before out)) x (get was (before out)) (7 ∷ [])) r (after out) ⌝ }
+    ensures { λ r. ⌜ OutputBecomes was (before out) (queuedWhole (length (before out)) x (get was (before out)) (7 ∷ [])) r (after out) ⌝ }
 {
     let n = out.len();
     let o = was.fit(n);

@@ -15,7 +15,7 @@ use Rattle.input.proofs.Laws.{fitted-within, fitted-same}
 use Rattle.output.specs.declared.Output.{Output}
 use Rattle.output.specs.Contract as output
 use Rattle.output.proofs.Laws as queued
-use Rattle.port.specs.State.{places, sizes, get}
+use Rattle.port.specs.State.{capacity, sizes, get}
 use Rattle.port.specs.declared.Port.{Port}
 use Rattle.port.specs.declared.Answered.{Answered}
 use Rattle.port.specs.Layers.{state, sizesOf, Ranged, Ready, Becomes, Turns}
@@ -25,17 +25,17 @@ use Rattle.port.specs.Calls.{Leaves, Asks, ranged}
 ---- The places of the input
 
 module _ (bs ms : List ℕ) where
-  pub first-places : places bs ms ≤ length bs
+  pub first-places : capacity bs ms ≤ length bs
   first-places = omega arith
 
-  pub second-places : places bs ms ≤ length ms
+  pub second-places : capacity bs ms ≤ length ms
   second-places = omega arith
 
-  pub bytes-long : length (take (places bs ms) bs) ≡ places bs ms
-  bytes-long = length-take-le (places bs ms) bs first-places
+  pub bytes-long : length (take (capacity bs ms) bs) ≡ capacity bs ms
+  bytes-long = length-take-le (capacity bs ms) bs first-places
 
-  pub marks-long : length (take (places bs ms) ms) ≡ places bs ms
-  marks-long = length-take-le (places bs ms) ms second-places
+  pub marks-long : length (take (capacity bs ms) ms) ≡ capacity bs ms
+  marks-long = length-take-le (capacity bs ms) ms second-places
 
 ---- The port with its numbers in range means the same
 
@@ -93,7 +93,7 @@ module _ (p : Port) (bs ms os : List ℕ) (e : length bs ≡ length ms) where
 
 module _ (p : Port) (bs ms os : List ℕ) where
   abbrev N : ℕ
-  N = places bs ms
+  N = capacity bs ms
 
   abbrev first : List ℕ
   first = take N bs
@@ -138,7 +138,7 @@ asks-as p bs ms os v w a e h = subst (λ (y : State × Reply). Asks p bs ms os y
 
 ---- A call that writes no slice
 
-module _ (p : Port) (bs ms os : List ℕ) (q : Port) (n : ℕ) (en : n ≡ places bs ms) (eq : q ≡ ranged p n (length os)) where
+module _ (p : Port) (bs ms os : List ℕ) (q : Port) (n : ℕ) (en : n ≡ capacity bs ms) (eq : q ≡ ranged p n (length os)) where
   pub ranged-ranged : Ranged q n (length os)
   ranged-ranged = subst (λ (y : Port). Ranged y n (length os)) (sym eq) (ranged-in p n (length os))
 
@@ -151,14 +151,14 @@ module _ (p : Port) (bs ms os : List ℕ) (q : Port) (n : ℕ) (en : n ≡ place
       (record {
         answer = refl;
         keeps =
-            subst (λ (y : List ℕ). Leaves p bs ms os (f (get p bs ms os)) t y ms os) (take-append-drop (places bs ms) bs)
-            (subst (λ (y : List ℕ). Leaves p bs ms os (f (get p bs ms os)) t (take (places bs ms) bs ++ drop (places bs ms) bs) y os)
-            (take-append-drop (places bs ms) ms)
-            (leaves-of p bs ms os (f (get p bs ms os)) t (take (places bs ms) bs) (take (places bs ms) ms) os refl refl from));
+            subst (λ (y : List ℕ). Leaves p bs ms os (f (get p bs ms os)) t y ms os) (take-append-drop (capacity bs ms) bs)
+            (subst (λ (y : List ℕ). Leaves p bs ms os (f (get p bs ms os)) t (take (capacity bs ms) bs ++ drop (capacity bs ms) bs) y os)
+            (take-append-drop (capacity bs ms) ms)
+            (leaves-of p bs ms os (f (get p bs ms os)) t (take (capacity bs ms) bs) (take (capacity bs ms) ms) os refl refl from));
       })
     where
       l : ℕ
-      l = length (take (places bs ms) bs)
+      l = length (take (capacity bs ms) bs)
 
       same : n ≡ l
       same = en ∙ sym (bytes-long bs ms)
@@ -168,9 +168,9 @@ module _ (p : Port) (bs ms os : List ℕ) (q : Port) (n : ℕ) (en : n ≡ place
           subst (λ (k : ℕ). Turns (ranged p k (length os)) k os (λ z s. f s) t os) same
           (subst (λ (y : Port). Turns y n os (λ z s. f s) t os) eq h)
 
-      from : Becomes (ranged p l (length os)) (take (places bs ms) bs) (take (places bs ms) ms) os (f (get p bs ms os)) t (take (places bs ms) bs)
-          (take (places bs ms) ms) os
+      from : Becomes (ranged p l (length os)) (take (capacity bs ms) bs) (take (capacity bs ms) ms) os (f (get p bs ms os)) t (take (capacity bs ms) bs)
+          (take (capacity bs ms) ms) os
       from =
-          as-state (ranged p l (length os)) t (take (places bs ms) bs) (take (places bs ms) ms) os (take (places bs ms) bs) (take (places bs ms) ms) os
-          (f (state (ranged p l (length os)) (take (places bs ms) bs) (take (places bs ms) ms) os)) (f (get p bs ms os)) (ap f (here p bs ms os))
-          (turned (take (places bs ms) bs) (take (places bs ms) ms) refl (marks-long bs ms ∙ sym (bytes-long bs ms)))
+          as-state (ranged p l (length os)) t (take (capacity bs ms) bs) (take (capacity bs ms) ms) os (take (capacity bs ms) bs) (take (capacity bs ms) ms) os
+          (f (state (ranged p l (length os)) (take (capacity bs ms) bs) (take (capacity bs ms) ms) os)) (f (get p bs ms os)) (ap f (here p bs ms os))
+          (turned (take (capacity bs ms) bs) (take (capacity bs ms) ms) refl (marks-long bs ms ∙ sym (bytes-long bs ms)))

@@ -15,24 +15,24 @@ use Rattle.port.specs.declared.Port.{Port}
 use Rattle.port.specs.Layers.{state, Ready, Becomes}
 
 -- an output in range that stays as it is
-pub output-stays : (o : Output) (os : List ℕ) → o ≡ output.inRange (length os) o → output.Becomes o os (output.get o os) o os
+pub output-stays : (o : Output) (os : List ℕ) → o ≡ output.inRange (length os) o → output.OutputBecomes o os (output.get o os) o os
 output-stays o os e =
-    let b : output.Becomes o os (output.get o os) (output.inRange (length os) o) os = queued.stays o os in
+    let b : output.OutputBecomes o os (output.get o os) (output.inRange (length os) o) os = queued.stays o os in
     record { output = e ∙ b .output; slice = b .slice }
 
 -- an input in range that stays as it is
-pub input-stays : (i : Input) (bs ms : List ℕ) → length bs ≡ length ms → input.Within i (length bs) → input.Becomes i bs ms (input.get i bs ms) i bs ms
+pub input-stays : (i : Input) (bs ms : List ℕ) → length bs ≡ length ms → input.Within i (length bs) → input.InputBecomes i bs ms (input.get i bs ms) i bs ms
 unfolding input.get
 input-stays i bs ms e w =
-    let c : input.Becomes i bs ms (input.cutAt i bs ms (i .queue .len)) (input.shortened (i .queue .len) i) bs ms =
+    let c : input.InputBecomes i bs ms (input.cutAt i bs ms (i .queue .len)) (input.shortened (i .queue .len) i) bs ms =
     stored.cut-becomes i bs ms e (i .queue .len) w (w .ready) in
     let k : min (i .queue .len) (i .queue .len) ≡ i .queue .len = omega arith in
     let r : input.shortened (i .queue .len) i ≡ i =
     ap (λ (n : ℕ). record { queue = record { head = i .queue .head; len = n }; ready = i .ready; literal = i .literal }) k in
     let m : input.cutAt i bs ms (i .queue .len) ≡ input.get i bs ms =
     ap (λ (l : List Place). record { finished = input.get i bs ms .finished; current = l; literalNext = i .literal }) (stored.line-whole i bs ms e w) in
-    subst (λ (y : RuledInput). input.Becomes i bs ms y i bs ms) m
-    (subst (λ (y : Input). input.Becomes i bs ms (input.cutAt i bs ms (i .queue .len)) y bs ms) r c)
+    subst (λ (y : RuledInput). input.InputBecomes i bs ms y i bs ms) m
+    (subst (λ (y : Input). input.InputBecomes i bs ms (input.cutAt i bs ms (i .queue .len)) y bs ms) r c)
 
 -- the port is what was put together
 pub as-assembled : (p q r : Port) (bs ms os bs′ ms′ os′ : List ℕ) (w : State) → r ≡ q → Becomes p bs ms os w q bs′ ms′ os′

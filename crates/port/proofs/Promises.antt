@@ -17,11 +17,11 @@ use Rattle.input.specs.declared.Input.{Input}
 use Rattle.input.proofs.Laws.{After, get-grown, get-fewer, used-least}
 use Rattle.output.specs.Contract as output
 use Rattle.output.proofs.Laws as queued
-use Rattle.port.specs.State.{places, sizes, get}
+use Rattle.port.specs.State.{capacity, sizes, get}
 use Rattle.port.specs.Sending.{refused}
 use Rattle.port.specs.declared.Port.{Port}
 use Rattle.port.specs.declared.Answered.{Answered}
-use Rattle.port.specs.Layers.{Becomes, state}
+use Rattle.port.specs.Layers.{state}
 use Rattle.port.proofs.Layers.{one-port}
 use Rattle.port.specs.following.Following.{Follows, grown, fewer, Goes}
 use Rattle.port.specs.Calls.{Leaves, Calls, Keeps, Asks, Now}
@@ -37,8 +37,8 @@ one-left : {p : Port} {bs ms os : List ℕ} {w : State} {r q : Port} {bs′ ms�
 one-left {p} {bs} {ms} {os} {w} {r} {q} {bs′} {ms′} {os′} {cs} {ns} {qs} h k =
     let s = one-port (h .port) (k .port) in (
       s .0,
-      whole (places bs ms) bs′ cs (s .1) (h .bytes ∙ sym (k .bytes)),
-      whole (places bs ms) ms′ ns (s .2) (h .marks ∙ sym (k .marks)),
+      whole (capacity bs ms) bs′ cs (s .1) (h .bytes ∙ sym (k .bytes)),
+      whole (capacity bs ms) ms′ ns (s .2) (h .marks ∙ sym (k .marks)),
       s .3,
     )
 
@@ -62,7 +62,7 @@ one-asked {p} {bs} {ms} {os} {w} {r} {q} h k =
 ---- The state after
 
 followed : (i r : Input) (bs ms bs′ ms′ : List ℕ) (w : RuledInput) → length bs ≡ length ms → Follows (input.get i bs ms) w → used w ≤ length bs
-    → input.Becomes i bs ms w r bs′ ms′ → After w bs ms r bs′ ms′
+    → input.InputBecomes i bs ms w r bs′ ms′ → After w bs ms r bs′ ms′
 followed i r bs ms bs′ ms′ w e (grown u es) le b = get-grown i bs ms w e u r bs′ ms′ es le b
 followed i r bs ms bs′ ms′ w e (fewer k es) le b = get-fewer i bs ms w e k es r bs′ ms′ b
 
@@ -88,7 +88,7 @@ pub left-now : (p r : Port) (bs ms os bs′ ms′ os′ : List ℕ) (w : State) 
     → Now p bs ms os w r bs′ ms′ os′
 unfolding get
 left-now p r bs ms os bs′ ms′ os′ w goes left =
-    let N : ℕ = places bs ms in
+    let N : ℕ = capacity bs ms in
     let b = left .port in
     let e : length (take N bs) ≡ length (take N ms) = bytes-long bs ms ∙ sym (marks-long bs ms) in
     let a : After (w .input) (take N bs) (take N ms) (r .input) (take N bs′) (take N ms′) =
@@ -97,15 +97,15 @@ left-now p r bs ms os bs′ ms′ os′ w goes left =
     let lb : length bs′ ≡ length bs = long-again N bs′ bs (a .bytes) (left .bytes) in
     let lm : length ms′ ≡ length ms = long-again N ms′ ms (a .marks) (left .marks) in
     let lo : length os′ ≡ length os = queued.same-size (p .output) (r .output) os os′ (w .output) (b .output) in
-    let n : places bs′ ms′ ≡ N = ap₂ min lb lm in
+    let n : capacity bs′ ms′ ≡ N = ap₂ min lb lm in
     record {
       state =
-          same-state (r .settings) (w .settings) (input.get (r .input) (take (places bs′ ms′) bs′) (take (places bs′ ms′) ms′)) (w .input)
+          same-state (r .settings) (w .settings) (input.get (r .input) (take (capacity bs′ ms′) bs′) (take (capacity bs′ ms′) ms′)) (w .input)
           (output.get (r .output) os′) (w .output) (r .foreground) (w .foreground) (r .hung) (w .hungUp) (r .waiting) (w .waiting)
           (b .settings) (ap (λ (k : ℕ). input.get (r .input) (take k bs′) (take k ms′)) n ∙ a .meaning)
           (queued.get-after (p .output) (r .output) os os′ (w .output) (b .output) (goes .queue)) (b .foreground) (b .hung) (b .waiting);
       sizes =
-          ap (λ (k : ℕ). record { line = k; input = places bs′ ms′; output = length os′ }) (b .line)
+          ap (λ (k : ℕ). record { line = k; input = capacity bs′ ms′; output = length os′ }) (b .line)
           ∙ ap₂ (λ (k m : ℕ). record { line = p .line; input = k; output = m }) n lo;
     }
 
@@ -114,8 +114,8 @@ module _ (p : Port) (bs ms os : List ℕ) where
   pub within-places : used (get p bs ms os .input) ≤ sizes p bs ms os .input
   unfolding get
   within-places =
-      let bs′ : List ℕ = take (places bs ms) bs in
-      let ms′ : List ℕ = take (places bs ms) ms in
+      let bs′ : List ℕ = take (capacity bs ms) bs in
+      let ms′ : List ℕ = take (capacity bs ms) ms in
       omega (arith, used-least (p .input) bs′ ms′ (bytes-long bs ms ∙ sym (marks-long bs ms)), bytes-long bs ms)
 
   pub within-queue : length (get p bs ms os .output .queue) ≤ sizes p bs ms os .output

@@ -11,7 +11,7 @@ use Rattle.rules.specs.Refusals.{Reply}
 use Rattle.rules.specs.Step.{step}
 use Rattle.input.specs.Contract as input
 use Rattle.output.specs.Contract.{inRange}
-use Rattle.port.specs.State.{places, sizes, get}
+use Rattle.port.specs.State.{capacity, sizes, get}
 use Rattle.port.specs.Sending.{refused}
 use Rattle.port.specs.declared.Port.{Port}
 use Rattle.port.specs.declared.Answered.{Answered}
@@ -24,9 +24,9 @@ stepOf p bs ms os call lent = step (sizes p bs ms os) (get p bs ms os) call lent
 -- Within the places of the input the port becomes the state w. Behind them, where one slice is longer than the other, every
 -- byte is as it was.
 pub record Leaves (p : Port) (bs ms os : List ℕ) (w : State) (r : Port) (bs′ ms′ os′ : List ℕ) : Type 0 where
-  pub port : Becomes p (take (places bs ms) bs) (take (places bs ms) ms) os w r (take (places bs ms) bs′) (take (places bs ms) ms′) os′
-  pub bytes : drop (places bs ms) bs′ ≡ drop (places bs ms) bs
-  pub marks : drop (places bs ms) ms′ ≡ drop (places bs ms) ms
+  pub port : Becomes p (take (capacity bs ms) bs) (take (capacity bs ms) ms) os w r (take (capacity bs ms) bs′) (take (capacity bs ms) ms′) os′
+  pub bytes : drop (capacity bs ms) bs′ ≡ drop (capacity bs ms) bs
+  pub marks : drop (capacity bs ms) ms′ ≡ drop (capacity bs ms) ms
 
 -- A call that is never refused.
 pub record Calls (p : Port) (bs ms os : List ℕ) (w : State × Reply) (r : Answered) (bs′ ms′ os′ : List ℕ) : Type 0 where
@@ -60,8 +60,8 @@ abbrev pub cancelled : Port → State × Reply → Answered
 cancelled p w = record { port = assembled p (p .input) (p .output) (w .0 .waiting); answer = w .1 .answer }
 
 -- a call that changes nothing
-abbrev pub answered : Port → State × Reply → Answered
-answered p w = record { port = p; answer = w .1 .answer }
+abbrev pub unchanged : Port → State × Reply → Answered
+unchanged p w = record { port = p; answer = w .1 .answer }
 
 -- After a call: the state is w, and the sizes are as before.
 pub record Now (p : Port) (bs ms os : List ℕ) (w : State) (r : Port) (bs′ ms′ os′ : List ℕ) : Type 0 where

@@ -39,8 +39,8 @@ pub record Ranged (p : Port) (n m : ℕ) : Type 0 where
 
 -- After the call the port is the state w: input and output laid as they say, the rest as in w.
 pub record Becomes (p : Port) (bs ms os : List ℕ) (w : State) (r : Port) (bs′ ms′ os′ : List ℕ) : Type 0 where
-  pub input : input.Becomes (p .input) bs ms (w .input) (r .input) bs′ ms′
-  pub output : output.Becomes (p .output) os (w .output) (r .output) os′
+  pub input : input.InputBecomes (p .input) bs ms (w .input) (r .input) bs′ ms′
+  pub output : output.OutputBecomes (p .output) os (w .output) (r .output) os′
   pub settings : r .settings ≡ w .settings
   pub line : r .line ≡ p .line
   pub foreground : r .foreground ≡ w .foreground

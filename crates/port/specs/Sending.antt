@@ -48,18 +48,18 @@ becomes p os w h lent a =
 abbrev pub keeps : Port → List ℕ → List ℕ → Answer → Outcomes
 keeps p os lent a = record { port = p; slice = os; lent = lent; answer = a }
 
-abbrev pub writtenBy : State × Reply → Port → List ℕ → List ℕ → Outcomes
-writtenBy r p os src =
+abbrev pub afterWriteBy : State × Reply → Port → List ℕ → List ℕ → Outcomes
+afterWriteBy r p os src =
     cond (refused (r .1 .answer)) (keeps p os src (r .1 .answer))
     (becomes p os (r .0 .output) (p .output .queue .head % length os) src (r .1 .answer))
 
 -- a write of src: 'its count is the bytes taken'
-unfoldable pub written : Port → List ℕ → List ℕ → Outcomes
-written p os src = writtenBy (rule.write (sizes p [] [] os) (get p [] [] os) src) p os src
+unfoldable pub afterWrite : Port → List ℕ → List ℕ → Outcomes
+afterWrite p os src = afterWriteBy (rule.write (sizes p [] [] os) (get p [] [] os) src) p os src
 
 -- a transmit into d: what is handed out, then d's own bytes
-unfoldable pub transmitted : Port → List ℕ → List ℕ → Outcomes
-transmitted p os d =
+unfoldable pub afterTransmit : Port → List ℕ → List ℕ → Outcomes
+afterTransmit p os d =
     let r : State × Reply = rule.transmit (get p [] [] os) (length d) in
     becomes p os (r .0 .output) ((p .output .queue .head + r .1 .answer .count) % length os) (lentAfter d (r .1)) (r .1 .answer)
 

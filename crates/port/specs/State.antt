@@ -8,18 +8,18 @@ use Rattle.output.specs.Contract as output
 use Rattle.output.specs.declared.Output.{Output}
 use Rattle.port.specs.declared.Port.{Port}
 
--- The input has as many places as the shorter of its two slices.
-abbrev pub places : List ℕ → List ℕ → ℕ
-places bs ms = min (length bs) (length ms)
+-- The input has as many capacity as the shorter of its two slices.
+abbrev pub capacity : List ℕ → List ℕ → ℕ
+capacity bs ms = min (length bs) (length ms)
 
 abbrev pub sizes : Port → List ℕ → List ℕ → List ℕ → Sizes
-sizes p bs ms os = record { line = p .line; input = places bs ms; output = length os }
+sizes p bs ms os = record { line = p .line; input = capacity bs ms; output = length os }
 
 unfoldable pub get : Port → List ℕ → List ℕ → List ℕ → State
 get p bs ms os =
     record {
       settings = p .settings;
-      input = input.get (p .input) (take (places bs ms) bs) (take (places bs ms) ms);
+      input = input.get (p .input) (take (capacity bs ms) bs) (take (capacity bs ms) ms);
       output = output.get (p .output) os;
       foreground = p .foreground;
       hungUp = p .hung;

@@ -2,7 +2,7 @@
 use mathlib.Core.Path.{_≡_, sym, ap, _∙_, subst, refl}
 use mathlib.Core.Bool.{Bool, true, false, not, _&&_, and-false, and-true}
 use Rattle.rules.specs.declared.Settings.{Settings}
-use Rattle.received.specs.Contract.{resumed, Answers, Tells, begun}
+use Rattle.received.specs.Contract.{stoppedThen, Answers, Tells, begun}
 use mathlib.Core.List.{List}
 use Prim.Native.Nat.{ℕ}
 use Rattle.rules.specs.Sizes.{Sizes, State, withInput, withLiteralNext}
@@ -21,10 +21,10 @@ use Rattle.received.specs.flushing.Contract.{stopTo}
 
 ---- 'IXON and IXANY: output resumes.'
 
-pub resumes-both : (x : Settings) (t : Bool) → x .ixon ≡ true → x .ixany ≡ true → false ≡ resumed x t
+pub resumes-both : (x : Settings) (t : Bool) → x .ixon ≡ true → x .ixany ≡ true → false ≡ stoppedThen x t
 resumes-both x t a b = sym (ap (λ (y : Bool). t && not (y && x .ixany)) a ∙ ap (λ (y : Bool). t && not y) b ∙ and-false t)
 
-pub resumes-not : (x : Settings) (t : Bool) → (x .ixon && x .ixany) ≡ false → t ≡ resumed x t
+pub resumes-not : (x : Settings) (t : Bool) → (x .ixon && x .ixany) ≡ false → t ≡ stoppedThen x t
 resumes-not x t a = sym (ap (λ (y : Bool). t && not y) a ∙ and-true t)
 
 ---- In the arm of one meaning. Assumes nothing
@@ -49,7 +49,7 @@ module _ (p : Port) (bs ms os : List ℕ) (g : Ready p bs ms os) where
         ranged =
             record {
               input = record { head = w .head; len = w .len; ready = w .ready };
-              output = ap (stopTo (resumed (p .settings) (p .output .stopped))) (g .ranged .output);
+              output = ap (stopTo (stoppedThen (p .settings) (p .output .stopped))) (g .ranged .output);
             };
       }
 

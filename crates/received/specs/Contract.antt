@@ -17,12 +17,12 @@ use Rattle.received.specs.declared.Reported.{Reported}
 use lib.ListN.{length}
 
 -- 'IXON and IXANY: output resumes.'
-abbrev pub resumed : Settings → Bool → Bool
-resumed x stopped = stopped && not (x .ixon && x .ixany)
+abbrev pub stoppedThen : Settings → Bool → Bool
+stoppedThen x stopped = stopped && not (x .ixon && x .ixany)
 
 -- the port at step 3
 abbrev pub begun : Port → Port
-begun p = assembled p (literalTo false (p .input)) (stopTo (resumed (p .settings) (p .output .stopped)) (p .output)) (p .waiting)
+begun p = assembled p (literalTo false (p .input)) (stopTo (stoppedThen (p .settings) (p .output .stopped)) (p .output)) (p .waiting)
 
 ---- What the functions of an event promise: the state of the rules after it, every byte of the slices, and what is reported
 

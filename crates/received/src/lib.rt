@@ -10,7 +10,7 @@ pub mod storing;
 
 ghost use mathlib.Core.Path.{_≡_};
 ghost use Rattle.rules.specs.Lent.{before, after};
-ghost use Rattle.received.specs.Contract.{resumed, begun, Answers, Tells, Announces, hungUp};
+ghost use Rattle.received.specs.Contract.{stoppedThen, begun, Answers, Tells, Announces, hungUp};
 ghost use lib.ListN.{length};
 ghost use Rattle.received.specs.meaning.Meaning.{meaningOf};
 ghost use Rattle.port.specs.Layers.{Becomes, Ready, state, sizesOf, Ranged, assembled};
@@ -27,7 +27,7 @@ use rules::Signal;
 
 // 2. 'IXON and IXANY: output resumes.'
 fn resumes(x: Settings, stopped: bool) -> bool
-    ensures { λ r. ⌜ r ≡ resumed x stopped ⌝ }
+    ensures { λ r. ⌜ r ≡ stoppedThen x stopped ⌝ }
 {
     if x.ixon {
         if x.ixany {

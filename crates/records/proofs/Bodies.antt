@@ -12,7 +12,7 @@ use Rattle.rules.specs.declared.Event.{Event}
 use Rattle.rules.specs.declared.Call.{Call}
 use Rattle.rules.specs.declared.Call.the-variants.{Set, Receive, Flush, Foreground}
 use Rattle.rules.specs.Settings.{settingsOf}
-use Rattle.rules.specs.Trace.{Decoded, malformed, asks, bitOf, isFlag, flag, settingsOn, readOn, transmitOn, settingsRecord, byteRecord, emptyRecord}
+use Rattle.rules.specs.Trace.{Decoded, malformed, asks, bitOf, isFlag, flag, settingsRecordOn, readRecordOn, transmitRecordOn, settingsRecord, byteRecord, emptyRecord}
 use Rattle.rules.specs.Trace.{readRecord, transmitRecord, flushRecord, foregroundRecord}
 use Rattle.records.specs.Bodies.{count, number}
 use Rattle.records.specs.Records.{told}
@@ -32,14 +32,14 @@ empty-by c [] = refl
 empty-by c (a ∷ l) = longer 0 (a ∷ l) (asks c []) (omega arith)
 
 pub read-by : (l : List ℕ)
-    → readRecord l ≡ cond (eqb (length l) 3) (readOn (leb (count l) 1024 && isFlag (getD l 2 0)) (count l) (getD l 2 0)) malformed
+    → readRecord l ≡ cond (eqb (length l) 3) (readRecordOn (leb (count l) 1024 && isFlag (getD l 2 0)) (count l) (getD l 2 0)) malformed
 read-by [] = refl
 read-by (a ∷ []) = refl
 read-by (a ∷ b ∷ []) = refl
 read-by (a ∷ b ∷ c ∷ []) = refl
 read-by (a ∷ b ∷ c ∷ d ∷ l) = longer 3 (a ∷ b ∷ c ∷ d ∷ l) _ (omega arith)
 
-pub transmit-by : (l : List ℕ) → transmitRecord l ≡ cond (eqb (length l) 2) (transmitOn (leb (count l) 2048) (count l)) malformed
+pub transmit-by : (l : List ℕ) → transmitRecord l ≡ cond (eqb (length l) 2) (transmitRecordOn (leb (count l) 2048) (count l)) malformed
 transmit-by [] = refl
 transmit-by (a ∷ []) = refl
 transmit-by (a ∷ b ∷ []) = refl
@@ -70,7 +70,7 @@ four-more m n =
     ∙ eqb·suc-suc m n)
 
 settings-on : (t : Bool) (flags : ℕ) (values : List ℕ)
-    → settingsOn t flags values ≡ cond t (asks (Set (settingsOf (bitOf flags) values)) []) malformed
+    → settingsRecordOn t flags values ≡ cond t (asks (Set (settingsOf (bitOf flags) values)) []) malformed
 settings-on true flags values = refl
 settings-on false flags values = refl
 

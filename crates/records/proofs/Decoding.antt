@@ -14,7 +14,7 @@ use Rattle.rules.specs.declared.Event.the-variants.{Good, Parity, Framing, Brea
 use Rattle.rules.specs.declared.Call.{Call}
 use Rattle.rules.specs.declared.Call.the-variants.{Set, Receive, Read, Write, Transmit, Flush, Cancel, Foreground}
 use Rattle.rules.specs.Settings.{settingsOf}
-use Rattle.rules.specs.Trace.{Decoded, malformed, asks, bitOf, isFlag, flag, readOn, transmitOn, settingsRecord, byteRecord, emptyRecord, readRecord}
+use Rattle.rules.specs.Trace.{Decoded, malformed, asks, bitOf, isFlag, flag, readRecordOn, transmitRecordOn, settingsRecord, byteRecord, emptyRecord, readRecord}
 use Rattle.rules.specs.Trace.{writeRecord, transmitRecord, flushRecord, foregroundRecord, decode}
 use Rattle.records.specs.Bodies.{count, number}
 use Rattle.records.specs.Records.{Decodes, told, meant}
@@ -49,26 +49,26 @@ fair-cancel l = rw (empty-by Cancel l) (sized l 0 (asks Cancel []) refl)
 zeros : (c : Call) (n : ℕ) → asks c (replicate (length (replicate {A = ℕ} n 0)) 0) ≡ asks c (replicate n 0)
 zeros c n = ap (λ (k : ℕ). asks c (replicate k 0)) (length-replicate n 0)
 
-fair-read-on : (l : List ℕ) (t : Bool) (n c : ℕ) → Fair l (readOn t n c)
+fair-read-on : (l : List ℕ) (t : Bool) (n c : ℕ) → Fair l (readRecordOn t n c)
 fair-read-on l true n c = zeros (Read (flag c)) n
 fair-read-on l false n c = refl
 
 fair-read : (l : List ℕ) → Fair l (readRecord l)
 fair-read l =
     let t = leb (count l) 1024 && isFlag (getD l 2 0) in
-    rw (read-by l) (sized l 3 (readOn t (count l) (getD l 2 0)) (fair-read-on l t (count l) (getD l 2 0)))
+    rw (read-by l) (sized l 3 (readRecordOn t (count l) (getD l 2 0)) (fair-read-on l t (count l) (getD l 2 0)))
 
 fair-write : (l : List ℕ) → Fair l (writeRecord l)
 fair-write l = fair-on l (leb (length l) 512) (asks Write l) malformed refl refl
 
-fair-transmit-on : (l : List ℕ) (t : Bool) (n : ℕ) → Fair l (transmitOn t n)
+fair-transmit-on : (l : List ℕ) (t : Bool) (n : ℕ) → Fair l (transmitRecordOn t n)
 fair-transmit-on l true n = zeros Transmit n
 fair-transmit-on l false n = refl
 
 fair-transmit : (l : List ℕ) → Fair l (transmitRecord l)
 fair-transmit l =
     let t = leb (count l) 2048 in
-    rw (transmit-by l) (sized l 2 (transmitOn t (count l)) (fair-transmit-on l t (count l)))
+    rw (transmit-by l) (sized l 2 (transmitRecordOn t (count l)) (fair-transmit-on l t (count l)))
 
 fair-flush : (l : List ℕ) → Fair l (flushRecord l)
 fair-flush l =

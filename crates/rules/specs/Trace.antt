@@ -93,16 +93,16 @@ abbrev pub bitOf : ℕ → ℕ → Bool
 bitOf flags i = eqb (flags / 2 ^ i % 2) 1
 
 -- '1 settings (4 flag bytes, 15 values)'. There are 15 values.
-abbrev pub settingsOn : Bool → ℕ → List ℕ → Decoded
-settingsOn true flags values = asks (Set (settingsOf (bitOf flags) values)) []
-settingsOn false flags values = malformed
+abbrev pub settingsRecordOn : Bool → ℕ → List ℕ → Decoded
+settingsRecordOn true flags values = asks (Set (settingsOf (bitOf flags) values)) []
+settingsRecordOn false flags values = malformed
 
 abbrev pub settingsRecord : List ℕ → Decoded
 settingsRecord [] = malformed
 settingsRecord (a ∷ []) = malformed
 settingsRecord (a ∷ b ∷ []) = malformed
 settingsRecord (a ∷ b ∷ c ∷ []) = malformed
-settingsRecord (a ∷ b ∷ c ∷ d ∷ values) = settingsOn (eqb (length values) 15) (four a b c d) values
+settingsRecord (a ∷ b ∷ c ∷ d ∷ values) = settingsRecordOn (eqb (length values) 15) (four a b c d) values
 
 -- '2 good, 3 parity, 4 framing byte (1)'
 abbrev pub byteRecord : (ℕ → Event) → List ℕ → Decoded
@@ -116,15 +116,15 @@ emptyRecord c [] = asks c []
 emptyRecord c (b ∷ bs) = malformed
 
 -- '8 read (2-byte count to 1,024, then 0 or 1 for non-blocking)'. Count and flag are such.
-abbrev pub readOn : Bool → ℕ → ℕ → Decoded
-readOn true n c = asks (Read (flag c)) (replicate n 0)
-readOn false n c = malformed
+abbrev pub readRecordOn : Bool → ℕ → ℕ → Decoded
+readRecordOn true n c = asks (Read (flag c)) (replicate n 0)
+readRecordOn false n c = malformed
 
 abbrev pub readRecord : List ℕ → Decoded
 readRecord [] = malformed
 readRecord (a ∷ []) = malformed
 readRecord (a ∷ b ∷ []) = malformed
-readRecord (a ∷ b ∷ c ∷ []) = readOn (leb (two a b) 1024 && isFlag c) (two a b) c
+readRecord (a ∷ b ∷ c ∷ []) = readRecordOn (leb (two a b) 1024 && isFlag c) (two a b) c
 readRecord (a ∷ b ∷ c ∷ d ∷ bs) = malformed
 
 -- '9 write (0 to 512)'
@@ -132,14 +132,14 @@ abbrev pub writeRecord : List ℕ → Decoded
 writeRecord bs = cond (leb (length bs) 512) (asks Write bs) malformed
 
 -- '10 transmit (2-byte count to 2,048)'. The count is such.
-abbrev pub transmitOn : Bool → ℕ → Decoded
-transmitOn true n = asks Transmit (replicate n 0)
-transmitOn false n = malformed
+abbrev pub transmitRecordOn : Bool → ℕ → Decoded
+transmitRecordOn true n = asks Transmit (replicate n 0)
+transmitRecordOn false n = malformed
 
 abbrev pub transmitRecord : List ℕ → Decoded
 transmitRecord [] = malformed
 transmitRecord (a ∷ []) = malformed
-transmitRecord (a ∷ b ∷ []) = transmitOn (leb (two a b) 2048) (two a b)
+transmitRecord (a ∷ b ∷ []) = transmitRecordOn (leb (two a b) 2048) (two a b)
 transmitRecord (a ∷ b ∷ c ∷ bs) = malformed
 
 -- '11 flush (1 input, 2 output, 3 both)'

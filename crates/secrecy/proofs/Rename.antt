@@ -65,11 +65,11 @@ module _ (f : ℕ → ℕ) where
   abbrev pub place : Place → Place
   place p = record { byte = f (p .byte); starts = p .starts; ends = p .ends; mark = p .mark; silent = p .silent }
 
-  abbrev pub places : List Place → List Place
-  places l = map place l
+  abbrev pub renamed : List Place → List Place
+  renamed l = map place l
 
   abbrev pub input : Input → Input
-  input i = record { finished = places (i .finished); current = places (i .current); literalNext = i .literalNext }
+  input i = record { finished = renamed (i .finished); current = renamed (i .current); literalNext = i .literalNext }
 
   abbrev pub state : State → State
   state s = withInput s (input (s .input))
@@ -97,36 +97,36 @@ module _ (f : ℕ → ℕ) where
 
   ---- Editing
 
-  joined-to : (p : Place) (us : List (List Place)) → joined (place p) (map places us) ≡ map places (joined p us)
+  joined-to : (p : Place) (us : List (List Place)) → joined (place p) (map renamed us) ≡ map renamed (joined p us)
   joined-to p [] = refl
-  joined-to p (u ∷ us) = ap (λ (v : List Place). v ∷ map places us) (sym (map-append place u (p ∷ [])))
+  joined-to p (u ∷ us) = ap (λ (v : List Place). v ∷ map renamed us) (sym (map-append place u (p ∷ [])))
 
-  units-to : (l : List Place) → units (places l) ≡ map places (units l)
+  units-to : (l : List Place) → units (renamed l) ≡ map renamed (units l)
   units-to [] = refl
   units-to (p ∷ ps) =
-      cond-to (map places) (p .starts) (ap (_∷_ (place p ∷ [])) (units-to ps))
+      cond-to (map renamed) (p .starts) (ap (_∷_ (place p ∷ [])) (units-to ps))
       (ap (joined (place p)) (units-to ps) ∙ joined-to p (units ps))
 
-  placesOf-to : (us : List (List Place)) → placesOf (map places us) ≡ places (placesOf us)
+  placesOf-to : (us : List (List Place)) → placesOf (map renamed us) ≡ renamed (placesOf us)
   placesOf-to [] = refl
   placesOf-to (u ∷ us) =
       ap₂ _++_ (reverse-to place u) (placesOf-to us) ∙ sym (map-append place (reverse u) (placesOf us))
 
-  without-to : (n : ℕ) (l : List Place) → withoutUnits n (places l) ≡ places (withoutUnits n l)
+  without-to : (n : ℕ) (l : List Place) → withoutUnits n (renamed l) ≡ renamed (withoutUnits n l)
   without-to n l =
       ap (λ (us : List (List Place)). placesOf (drop n us)) (units-to l)
-      ∙ ap placesOf (drop-to places n (units l)) ∙ placesOf-to (drop n (units l))
+      ∙ ap placesOf (drop-to renamed n (units l)) ∙ placesOf-to (drop n (units l))
 
-  removed-to : (x : Settings) (e : Edit) (us : List (List Place)) → NoWord e → removed x e (map places us) ≡ removed x e us
-  removed-to x erase us w = ap (min 1) (length-map us places)
+  removed-to : (x : Settings) (e : Edit) (us : List (List Place)) → NoWord e → removed x e (map renamed us) ≡ removed x e us
+  removed-to x erase us w = ap (min 1) (length-map us renamed)
   removed-to x wordErase us w = absurd w
-  removed-to x kill us w = length-map us places
+  removed-to x kill us w = length-map us renamed
   removed-to x reprint us w = refl
 
   edited-to : (x : Settings) (e : Edit) (i : Input) → NoWord e → edited x e (input i) ≡ input (edited x e i)
   edited-to x e i w =
-      ap (λ (l : List Place). record { finished = places (i .finished); current = l; literalNext = i .literalNext })
-      (ap (λ (n : ℕ). withoutUnits n (places (i .current))) (ap (removed x e) (units-to (i .current)) ∙ removed-to x e (units (i .current)) w)
+      ap (λ (l : List Place). record { finished = renamed (i .finished); current = l; literalNext = i .literalNext })
+      (ap (λ (n : ℕ). withoutUnits n (renamed (i .current))) (ap (removed x e) (units-to (i .current)) ∙ removed-to x e (units (i .current)) w)
       ∙ without-to (removed x e (units (i .current))) (i .current))
 
   -- with ECHO clear no edit shows anything
@@ -134,56 +134,56 @@ module _ (f : ℕ → ℕ) where
   unseen x e b n us h = rw h
 
   editOn-to : (us : List (List Place)) (z : Sizes) (s : State) (e : Edit) (b : ℕ) → s .settings .echo ≡ false → NoWord e
-      → editOn (map places us) z (state s) e b ≡ state (editOn us z s e b)
+      → editOn (map renamed us) z (state s) e b ≡ state (editOn us z s e b)
   editOn-to [] z s erase b h w = refl
   editOn-to [] z s wordErase b h w = absurd w
   editOn-to [] z s kill b h w = refl
   editOn-to [] z s reprint b h w = refl
   editOn-to (u ∷ us) z s e b h w =
       ap₂ (λ (i : Input) (bs : List ℕ). shown z (withInput s i) bs) (edited-to (s .settings) e (s .input) w)
-      (unseen (s .settings) e b (removed (s .settings) e (map places (u ∷ us))) (map places (u ∷ us)) h
+      (unseen (s .settings) e b (removed (s .settings) e (map renamed (u ∷ us))) (map renamed (u ∷ us)) h
       ∙ sym (unseen (s .settings) e b (removed (s .settings) e (u ∷ us)) (u ∷ us) h))
 
   ---- Storing
 
-  fits-to : (c : Bool) (z : Sizes) (i : Input) (u : List Place) → unitFits c z (input i) (length (places u)) ≡ unitFits c z i (length u)
+  fits-to : (c : Bool) (z : Sizes) (i : Input) (u : List Place) → unitFits c z (input i) (length (renamed u)) ≡ unitFits c z i (length u)
   fits-to true z i u = simp length-map
   fits-to false z i u = simp length-map
 
   end-fits-to : (z : Sizes) (i : Input) → endFits z (input i) ≡ endFits z i
   end-fits-to z i = simp length-map
 
-  stored-to : (i : Input) → stored (input i) ≡ places (stored i)
+  stored-to : (i : Input) → stored (input i) ≡ renamed (stored i)
   stored-to i =
-      ap (λ (l : List Place). places (i .finished) ++ l) (reverse-to place (i .current))
+      ap (λ (l : List Place). renamed (i .finished) ++ l) (reverse-to place (i .current))
       ∙ sym (map-append place (i .finished) (reverse (i .current)))
 
-  keptIn-to : (c : Bool) (i : Input) (u : List Place) → keptIn c (input i) (places u) ≡ input (keptIn c i u)
+  keptIn-to : (c : Bool) (i : Input) (u : List Place) → keptIn c (input i) (renamed u) ≡ input (keptIn c i u)
   keptIn-to true i u =
-      ap (λ (l : List Place). record { finished = places (i .finished); current = l; literalNext = i .literalNext })
-      (ap (λ (l : List Place). l ++ places (i .current)) (reverse-to place u) ∙ sym (map-append place (reverse u) (i .current)))
+      ap (λ (l : List Place). record { finished = renamed (i .finished); current = l; literalNext = i .literalNext })
+      (ap (λ (l : List Place). l ++ renamed (i .current)) (reverse-to place u) ∙ sym (map-append place (reverse u) (i .current)))
   keptIn-to false i u =
       ap (λ (l : List Place). record { finished = l; current = []; literalNext = i .literalNext })
-      (ap (λ (l : List Place). l ++ places u) (stored-to i) ∙ sym (map-append place (stored i) u))
+      (ap (λ (l : List Place). l ++ renamed u) (stored-to i) ∙ sym (map-append place (stored i) u))
 
   ended-to : (s : State) (p : Place) → ended (state s) (place p) ≡ state (ended s p)
   ended-to s p =
       ap (λ (l : List Place). withInput (ended s p) (record { finished = l; current = []; literalNext = s .input .literalNext }))
-      (ap (λ (l : List Place). places (s .input .finished) ++ l) (reverse-to place (p ∷ s .input .current))
+      (ap (λ (l : List Place). renamed (s .input .finished) ++ l) (reverse-to place (p ∷ s .input .current))
       ∙ sym (map-append place (s .input .finished) (reverse (p ∷ s .input .current))))
 
   overflowOn-to : (t : Bool) (z : Sizes) (s : State) → overflowOn t z (state s) ≡ state (overflowOn t z s)
   overflowOn-to true z s = refl
   overflowOn-to false z s = refl
 
-  unitOn-to : (t : Bool) (z : Sizes) (s : State) (u : List Place) (echo : List ℕ) → unitOn t z (state s) (places u) echo ≡ state (unitOn t z s u echo)
+  unitOn-to : (t : Bool) (z : Sizes) (s : State) (u : List Place) (echo : List ℕ) → unitOn t z (state s) (renamed u) echo ≡ state (unitOn t z s u echo)
   unitOn-to true z s u echo =
       ap (λ (i : Input). shown z (withInput (kept s u) i) echo) (keptIn-to (s .settings .icanon) (s .input) u)
   unitOn-to false z s u echo = overflowOn-to (s .settings .imaxbel) z s
 
-  storesUnit-to : (z : Sizes) (s : State) (u : List Place) (echo : List ℕ) → storesUnit z (state s) (places u) echo ≡ state (storesUnit z s u echo)
+  storesUnit-to : (z : Sizes) (s : State) (u : List Place) (echo : List ℕ) → storesUnit z (state s) (renamed u) echo ≡ state (storesUnit z s u echo)
   storesUnit-to z s u echo =
-      ap (λ (t : Bool). unitOn t z (state s) (places u) echo) (fits-to (s .settings .icanon) z (s .input) u)
+      ap (λ (t : Bool). unitOn t z (state s) (renamed u) echo) (fits-to (s .settings .icanon) z (s .input) u)
       ∙ unitOn-to (unitFits (s .settings .icanon) z (s .input) (length u)) z s u echo
 
   endOn-to : (t : Bool) (z : Sizes) (s : State) (p : Place) (echo : List ℕ) → endOn t z (state s) (place p) echo ≡ state (endOn t z s p echo)
@@ -194,7 +194,7 @@ module _ (f : ℕ → ℕ) where
   storesEnd-to z s p echo =
       ap (λ (t : Bool). endOn t z (state s) (place p) echo) (end-fits-to z (s .input)) ∙ endOn-to (endFits z (s .input)) z s p echo
 
-  unit-to : (silent : Bool) (b : ℕ) (more : List ℕ) → unit silent (f b) (map f more) ≡ places (unit silent b more)
+  unit-to : (silent : Bool) (b : ℕ) (more : List ℕ) → unit silent (f b) (map f more) ≡ renamed (unit silent b more)
   unit-to silent b more =
       ap (_∷_ (record { byte = f b; starts = true; ends = false; mark = false; silent = silent }))
       (map-map (further silent) f more ∙ sym (map-map place (further silent) more))
@@ -230,24 +230,24 @@ module _ (f : ℕ → ℕ) where
 
   ---- Reads
 
-  isEmpty-to : (l : List Place) → isEmpty (places l) ≡ isEmpty l
+  isEmpty-to : (l : List Place) → isEmpty (renamed l) ≡ isEmpty l
   isEmpty-to [] = refl
   isEmpty-to (p ∷ ps) = refl
 
-  bytesOf-to : (l : List Place) → bytesOf (places l) ≡ map f (bytesOf l)
+  bytesOf-to : (l : List Place) → bytesOf (renamed l) ≡ map f (bytesOf l)
   bytesOf-to [] = refl
   bytesOf-to (p ∷ ps) = ap (_∷_ (f (p .byte))) (bytesOf-to ps)
 
   abbrev part : Part → Part
-  part r = record { bytes = map f (r .bytes); left = places (r .left) }
+  part r = record { bytes = map f (r .bytes); left = renamed (r .left) }
 
-  firstLine-to : (n : ℕ) (l : List Place) → firstLine n (places l) ≡ part (firstLine n l)
+  firstLine-to : (n : ℕ) (l : List Place) → firstLine n (renamed l) ≡ part (firstLine n l)
   firstLine-to n [] = refl
   firstLine-to zero (p ∷ ps) = cond-to part (p .mark) refl refl
   firstLine-to (suc n) (p ∷ ps) =
       cond-to part (p .mark) refl (cond-to part (p .ends) refl (ap (behind (f (p .byte))) (firstLine-to n ps)))
 
-  partOf-to : (c : Bool) (n : ℕ) (l : List Place) → partOf c n (places l) ≡ part (partOf c n l)
+  partOf-to : (c : Bool) (n : ℕ) (l : List Place) → partOf c n (renamed l) ≡ part (partOf c n l)
   partOf-to true n l = firstLine-to n l
   partOf-to false n l =
       λ i. record { bytes = (ap bytesOf (take-to place n l) ∙ bytesOf-to (take n l)) i; left = drop-to place n l i }

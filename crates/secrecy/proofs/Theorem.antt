@@ -18,7 +18,7 @@ use Rattle.rules.proofs.Truth.{and-true}
 use Rattle.secrecy.specs.Statement.{Each, none, more, nth, KeepsSettings, Quiet, reserved, Brings, good, parity, MayDiffer, same, differ}
 use Rattle.secrecy.specs.Statement.{Delivered, equal, ofEvent, Alike, Secret}
 use Rattle.secrecy.specs.Reports.{Given, fixed, ofCall, Report, byteIn, byteOf, replyOf, OneReport}
-use Rattle.secrecy.proofs.Rename.{places, state, reply, both}
+use Rattle.secrecy.proofs.Rename.{renamed, state, reply, both}
 use Rattle.secrecy.proofs.Keeps.{Keeps, unit-keeps, step-keeps}
 use Rattle.secrecy.proofs.Calls.{weight, cleared, hiddenOn, step-to, brings-to}
 
@@ -180,7 +180,7 @@ abbrev heap : List Place → ℕ
 heap [] = 0
 heap (p ∷ l) = p .byte + heap l
 
-places-left : (f : ℕ → ℕ) (top : ℕ) → ((n : ℕ) → n < top → f n ≡ n) → (l : List Place) → heap l < top → places f l ≡ l
+places-left : (f : ℕ → ℕ) (top : ℕ) → ((n : ℕ) → n < top → f n ≡ n) → (l : List Place) → heap l < top → renamed f l ≡ l
 places-left f top left [] h = refl
 places-left f top left (p ∷ l) h =
     ap₂ _∷_

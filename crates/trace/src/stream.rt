@@ -5,7 +5,7 @@ ghost use mathlib.Core.Path.{_≡_};
 ghost use lib.ListN.{length};
 ghost use Rattle.rules.specs.Lent.{before, after};
 ghost use Rattle.records.specs.lines.Puts.{Prints};
-ghost use Rattle.trace.specs.stream.Contract.{beginning, left, Takes, FeedsLent};
+ghost use Rattle.trace.specs.stream.Contract.{beginning, left, TakesIn, FeedsLent};
 ghost use Rattle.rules.specs.Trace.{trace};
 use super::gathering;
 use port::Port;
@@ -52,7 +52,7 @@ impl Stream {
 // the next bytes of the input, up to the end of a record
 pub fn take_in(g: Stream, kept: &mut [u8], piece: &[u8], line: &mut [u8]) -> Taken
     requires { ⌜ length (now kept) ≡ 517 ⌝ }
-    ensures { λ r. ⌜ Takes g (before kept) (before piece) (before line) r (after kept) (after line) ⌝ }
+    ensures { λ r. ⌜ TakesIn g (before kept) (before piece) (before line) r (after kept) (after line) ⌝ }
 {
     if g.done {
         return Taken {

@@ -17,7 +17,7 @@ use Rattle.input.specs.declared.Input.{Input}
 use Rattle.input.specs.Contract.{Within, fitted, Sound}
 use Rattle.input.proofs.Laws.{fitted-within}
 use Rattle.output.specs.declared.Output.{Output}
-use Rattle.port.specs.State.{places, get}
+use Rattle.port.specs.State.{capacity, get}
 use Rattle.port.specs.declared.Port.{Port}
 use Rattle.port.specs.declared.Answered.{Answered}
 use Rattle.input.specs.canonical.Contract.{GoesOff, GoesOn}
@@ -75,13 +75,13 @@ module _ (o : Output) (was is : Bool) where
 ---- set
 
 module _ (p : Port) (bs ms : List ℕ) where
-  pub fitted-sound : (f : Input) (n : ℕ) → n ≡ places bs ms → f ≡ fitted n (p .input) → Sound f (take n bs) (take n ms)
+  pub fitted-sound : (f : Input) (n : ℕ) → n ≡ capacity bs ms → f ≡ fitted n (p .input) → Sound f (take n bs) (take n ms)
   fitted-sound f n en ef =
       subst (λ (y : Input). Sound y (take n bs) (take n ms)) (sym ef)
       (subst (λ (k : ℕ). Sound (fitted k (p .input)) (take k bs) (take k ms)) (sym en)
       (record {
         same = both-long p bs ms [];
-        within = subst (λ (k : ℕ). Within (fitted (places bs ms) (p .input)) k) (sym (bytes-long bs ms)) (fitted-within (places bs ms) (p .input));
+        within = subst (λ (k : ℕ). Within (fitted (capacity bs ms) (p .input)) k) (sym (bytes-long bs ms)) (fitted-within (capacity bs ms) (p .input));
       }))
 
   module _ (x : Settings) (a : Answered) (t : Bool) (et : t ≡ aReadWaits (p .waiting)) where
@@ -109,7 +109,7 @@ module _ (p : Port) (bs ms : List ℕ) where
           sets-as bs ms (setOn false false s x) (stepOf p bs ms [] (Set x) []) (tested false false e (sym eg ∙ f))
           (subst (λ (y : Answered). Sets p bs ms x (setOn false false s x) y bs ms) (sym ea) (record { answer = refl; leaves = (refl, refl, refl) }))
 
-      pub set-good : (f i : Input) (o : Output) (q : Port) (n : ℕ) (cs ns : List ℕ) → t ≡ false → g ≡ true → n ≡ places bs ms → f ≡ fitted n (p .input)
+      pub set-good : (f i : Input) (o : Output) (q : Port) (n : ℕ) (cs ns : List ℕ) → t ≡ false → g ≡ true → n ≡ capacity bs ms → f ≡ fitted n (p .input)
           → length cs ≡ length (take n bs) → length ns ≡ length (take n ms)
           → Changes (p .settings .icanon) (x .icanon) f (take n bs) (take n ms) i cs ns
           → o ≡ resumed (p .settings .ixon) (x .ixon) (p .output) → q ≡ withSettings p x i o
@@ -125,7 +125,7 @@ module _ (p : Port) (bs ms : List ℕ) where
           })))
         where
           N : ℕ
-          N = places bs ms
+          N = capacity bs ms
 
           whole : q ≡ withSettings p x i (resumed (p .settings .ixon) (x .ixon) (p .output))
           whole = eq ∙ ap (withSettings p x i) eo

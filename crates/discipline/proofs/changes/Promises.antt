@@ -15,7 +15,7 @@ use Rattle.input.specs.Contract as input
 use Rattle.input.specs.declared.Input.{Input}
 use Rattle.input.proofs.Laws.{After, fitted-same}
 use Rattle.output.specs.Contract as output
-use Rattle.port.specs.State.{places, sizes, get}
+use Rattle.port.specs.State.{capacity, sizes, get}
 use Rattle.port.specs.Sending.{refused}
 use Rattle.port.specs.declared.Port.{Port}
 use Rattle.port.specs.declared.Answered.{Answered}
@@ -43,7 +43,7 @@ one-left : (t : Bool) (p : Port) (bs ms : List ℕ) (x : Settings) (r q : Port) 
     → SetLeaves t p bs ms x q cs ns → (r ≡ q) × (bs′ ≡ cs) × (ms′ ≡ ns)
 one-left true p bs ms x r q bs′ ms′ cs ns h k = (h .0 ∙ sym (k .0), h .1 ∙ sym (k .1), h .2 ∙ sym (k .2))
 one-left false p bs ms x r q bs′ ms′ cs ns h k =
-    let n : ℕ = places bs ms in
+    let n : ℕ = capacity bs ms in
     let same =
     one-change (p .settings .icanon) (x .icanon) (input.fitted n (p .input)) (take n bs) (take n ms) (r .input) (q .input) (take n bs′) (take n ms′)
     (take n cs) (take n ns) (h .input) (k .input) in (
@@ -87,7 +87,7 @@ changed-now : (p r : Port) (bs ms os : List ℕ) (x : Settings) (bs′ ms′ : L
     → Now p bs ms os (changed (get p bs ms os) x) r bs′ ms′ os
 unfolding get output.get
 changed-now p r bs ms os x bs′ ms′ h =
-    let N : ℕ = places bs ms in
+    let N : ℕ = capacity bs ms in
     let f : Input = input.fitted N (p .input) in
     let a : After (changedInput (p .settings .icanon) (x .icanon) (input.get f (take N bs) (take N ms))) (take N bs) (take N ms) (r .input) (take N bs′)
     (take N ms′) =
@@ -98,18 +98,18 @@ changed-now p r bs ms os x bs′ ms′ h =
     ∙ fitted-same (p .input) (take N bs) (take N ms) (both-long p bs ms os) in
     let lb : length bs′ ≡ length bs = long-again N bs′ bs (a .bytes) (h .bytes) in
     let lm : length ms′ ≡ length ms = long-again N ms′ ms (a .marks) (h .marks) in
-    let n : places bs′ ms′ ≡ N = ap₂ min lb lm in
+    let n : capacity bs′ ms′ ≡ N = ap₂ min lb lm in
     let w : State = changed (get p bs ms os) x in
     record {
       state =
-          same-state (r .settings) (w .settings) (input.get (r .input) (take (places bs′ ms′) bs′) (take (places bs′ ms′) ms′)) (w .input)
+          same-state (r .settings) (w .settings) (input.get (r .input) (take (capacity bs′ ms′) bs′) (take (capacity bs′ ms′) ms′)) (w .input)
           (output.get (r .output) os) (w .output) (r .foreground) (w .foreground) (r .hung) (w .hungUp) (r .waiting) (w .waiting)
           (ap (λ (y : Port). y .settings) (h .port))
           (ap (λ (k : ℕ). input.get (r .input) (take k bs′) (take k ms′)) n ∙ a .meaning ∙ ap (changedInput (p .settings .icanon) (x .icanon)) fit)
           (ap (λ (y : Port). output.get (y .output) os) (h .port)) (ap (λ (y : Port). y .foreground) (h .port)) (ap (λ (y : Port). y .hung) (h .port))
           (ap (λ (y : Port). y .waiting) (h .port));
       sizes =
-          ap (λ (y : Port). record { line = y .line; input = places bs′ ms′; output = length os }) (h .port)
+          ap (λ (y : Port). record { line = y .line; input = capacity bs′ ms′; output = length os }) (h .port)
           ∙ ap (λ (k : ℕ). record { line = p .line; input = k; output = length os }) n;
     }
 

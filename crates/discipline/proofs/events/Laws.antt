@@ -9,7 +9,7 @@ use Rattle.rules.specs.declared.Outcome.{Outcome}
 use Rattle.rules.specs.Sizes.{Sizes, State}
 use Rattle.rules.specs.Received as steps
 use Rattle.rules.specs.Step.{bytesIn}
-use Rattle.port.specs.State.{places, sizes, get}
+use Rattle.port.specs.State.{capacity, sizes, get}
 use Rattle.port.specs.declared.Port.{Port}
 use Rattle.port.specs.declared.Answered.{Answered}
 use Rattle.port.specs.Layers.{state, sizesOf, Becomes, Ranged, Turns}
@@ -30,7 +30,7 @@ use Rattle.port.proofs.Layers.{as-assembled, input-stays}
 
 module _ (p : Port) (bs ms os : List ℕ) where
   abbrev N : ℕ
-  N = places bs ms
+  N = capacity bs ms
 
   abbrev first : List ℕ
   first = take N bs
@@ -108,7 +108,7 @@ flushed-output q t n os g et bs ms eb em =
       waiting = refl;
     })
 
-module _ (p : Port) (bs ms os : List ℕ) (q : Port) (n : ℕ) (en : n ≡ places bs ms) (eq : q ≡ ranged p n (length os)) where
+module _ (p : Port) (bs ms os : List ℕ) (q : Port) (n : ℕ) (en : n ≡ capacity bs ms) (eq : q ≡ ranged p n (length os)) where
   module _ (choice : ℕ) (t : Port) (a : Answered) where
     abbrev s : State
     s = get p bs ms os

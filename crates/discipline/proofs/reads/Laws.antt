@@ -16,13 +16,13 @@ use Rattle.input.specs.Contract as input
 use Rattle.input.specs.declared.Input.{Input}
 use Rattle.input.specs.reading.Contract as reading
 use Rattle.input.specs.declared.reading.Taken.{Taken}
-use Rattle.port.specs.State.{get, places}
+use Rattle.port.specs.State.{get, capacity}
 use Rattle.port.specs.Sending.{refused}
 use Rattle.port.specs.declared.Port.{Port}
 use Rattle.port.specs.declared.Answered.{Answered}
 use Rattle.port.specs.Layers.{assembled}
 use Rattle.port.proofs.Layers.{input-stays}
-use Rattle.discipline.specs.reads.Contract.{stateOf, took, Takes, finds, Reads}
+use Rattle.discipline.specs.reads.Contract.{stateOf, took, ReadsFrom, finds, Reads}
 use lib.Dec.{eqb, ltb}
 use borrow.Author.Tests.{eq-eqb, ne-eqb, lt-ltb}
 use Rattle.rules.specs.declared.Refusal.the-variants.{Nothing, ReadWaits}
@@ -34,9 +34,9 @@ use Rattle.rules.specs.declared.Call.the-variants.{Cancel}
 use Rattle.port.specs.Calls.{stepOf, cancelled}
 
 -- the answer by another name
-pub as-read : {v w : State × Reply} (p : Port) (i : Input) (bs ms d : List ℕ) (r : Answered) (d′ : List ℕ) → v ≡ w → Takes p i bs ms d v r d′
-    → Takes p i bs ms d w r d′
-as-read p i bs ms d r d′ e t = subst (λ (y : State × Reply). Takes p i bs ms d y r d′) e t
+pub as-read : {v w : State × Reply} (p : Port) (i : Input) (bs ms d : List ℕ) (r : Answered) (d′ : List ℕ) → v ≡ w → ReadsFrom p i bs ms d v r d′
+    → ReadsFrom p i bs ms d w r d′
+as-read p i bs ms d r d′ e t = subst (λ (y : State × Reply). ReadsFrom p i bs ms d y r d′) e t
 
 ---- When a read finds what it asks for
 
@@ -63,7 +63,7 @@ module _ (p : Port) (i : Input) (bs ms d : List ℕ) (h : input.Sound i bs ms) w
   -- nothing is taken; the waiting read is w
   pub none-taken : (w : Waiting) (o : Outcome) (q : Port) (r : Answered) → refused (record { outcome = o; count = 0 }) ≡ false
       → q ≡ assembled p i (p .output) w
-      → r ≡ record { port = q; answer = record { outcome = o; count = 0 } } → Takes p i bs ms d (withWaiting s w, says o 0) r d
+      → r ≡ record { port = q; answer = record { outcome = o; count = 0 } } → ReadsFrom p i bs ms d (withWaiting s w, says o 0) r d
   none-taken w o q r kept eq er =
       record {
         answer = ap (λ (y : Answered). y .answer) er;
@@ -77,7 +77,7 @@ module _ (p : Port) (i : Input) (bs ms d : List ℕ) (h : input.Sound i bs ms) w
 
   pub refused-of : (o : Outcome) (r : Answered) → refused (record { outcome = o; count = 0 }) ≡ true
       → r ≡ record { port = p; answer = record { outcome = o; count = 0 } }
-      → Takes p i bs ms d (s, says o 0) r d
+      → ReadsFrom p i bs ms d (s, says o 0) r d
   refused-of o r kept er =
       record {
         answer = ap (λ (y : Answered). y .answer) er;
@@ -86,8 +86,8 @@ module _ (p : Port) (i : Input) (bs ms d : List ℕ) (h : input.Sound i bs ms) w
       }
 
   -- a part is given
-  given : (t : rule.Part) (k : Taken) (q : Port) (r : Answered) (d′ : List ℕ) → reading.Reads i bs ms d t k d′ → q ≡ assembled p (k .input) (p .output) Idle
-      → r ≡ record { port = q; answer = record { outcome = Ok; count = k .count } } → Takes p i bs ms d (rule.finish s t) r d′
+  given : (t : rule.Part) (k : Taken) (q : Port) (r : Answered) (d′ : List ℕ) → reading.ReadsPart i bs ms d t k d′ → q ≡ assembled p (k .input) (p .output) Idle
+      → r ≡ record { port = q; answer = record { outcome = Ok; count = k .count } } → ReadsFrom p i bs ms d (rule.finish s t) r d′
   given t k q r d′ b eq er =
       record {
         answer = ap (λ (y : Answered). y .answer) er ∙ ap (λ (n : ℕ). record { outcome = Ok; count = n }) (b .count);
@@ -97,14 +97,14 @@ module _ (p : Port) (i : Input) (bs ms d : List ℕ) (h : input.Sound i bs ms) w
 
   pub line-given : (k : Taken) (q : Port) (r : Answered) (d′ : List ℕ) → p .settings .icanon ≡ true → reading.ReadsLine i bs ms d k d′
       → q ≡ assembled p (k .input) (p .output) Idle → r ≡ record { port = q; answer = record { outcome = Ok; count = k .count } }
-      → Takes p i bs ms d (rule.finish s (rule.partOf (p .settings .icanon) (length d) (input.get i bs ms .finished))) r d′
+      → ReadsFrom p i bs ms d (rule.finish s (rule.partOf (p .settings .icanon) (length d) (input.get i bs ms .finished))) r d′
   line-given k q r d′ c b eq er =
       as-read p i bs ms d r d′ (ap (λ (y : Bool). rule.finish s (rule.partOf y (length d) (input.get i bs ms .finished))) (sym c))
       (given (rule.firstLine (length d) (input.get i bs ms .finished)) k q r d′ b eq er)
 
   pub bytes-given : (k : Taken) (q : Port) (r : Answered) (d′ : List ℕ) → p .settings .icanon ≡ false → reading.ReadsBytes i bs d k d′
       → q ≡ assembled p (k .input) (p .output) Idle → r ≡ record { port = q; answer = record { outcome = Ok; count = k .count } }
-      → Takes p i bs ms d (rule.finish s (rule.partOf (p .settings .icanon) (length d) (input.get i bs ms .finished))) r d′
+      → ReadsFrom p i bs ms d (rule.finish s (rule.partOf (p .settings .icanon) (length d) (input.get i bs ms .finished))) r d′
   bytes-given k q r d′ c b eq er =
       as-read p i bs ms d r d′ (ap (λ (y : Bool). rule.finish s (rule.partOf y (length d) (input.get i bs ms .finished))) (sym c))
       (given (rule.firstBytes (length d) (input.get i bs ms .finished)) k q r d′ (b ms (h .same)) eq er)
@@ -149,21 +149,21 @@ module _ (p : Port) (i : Input) (bs ms d : List ℕ) (h : input.Sound i bs ms) w
   part = rule.partOf (p .settings .icanon) (length d) (input.get i bs ms .finished)
 
   pub nothing-there : (nonblocking : Bool) (r : Answered) → nonblocking ≡ true → i .ready ≡ 0
-      → r ≡ record { port = p; answer = record { outcome = Refused Nothing; count = 0 } } → Takes p i bs ms d (rule.ruled s nonblocking (length d)) r d
+      → r ≡ record { port = p; answer = record { outcome = Refused Nothing; count = 0 } } → ReadsFrom p i bs ms d (rule.ruled s nonblocking (length d)) r d
   nothing-there nonblocking r e z er =
       as-read p i bs ms d r d
       (ruled-as (length d) true nonblocking true (rule.doneOn (p .settings .icanon) s (length d)) e (sym is-empty ∙ eq-eqb (i .ready) 0 z) refl)
       (refused-of (Refused Nothing) r refl er)
 
-  pub at-once : (nonblocking : Bool) (r : Answered) (d′ : List ℕ) → nonblocking ≡ true → (i .ready ≡ 0 → ⊥) → Takes p i bs ms d (rule.finish s part) r d′
-      → Takes p i bs ms d (rule.ruled s nonblocking (length d)) r d′
+  pub at-once : (nonblocking : Bool) (r : Answered) (d′ : List ℕ) → nonblocking ≡ true → (i .ready ≡ 0 → ⊥) → ReadsFrom p i bs ms d (rule.finish s part) r d′
+      → ReadsFrom p i bs ms d (rule.ruled s nonblocking (length d)) r d′
   at-once nonblocking r d′ e some t =
       as-read p i bs ms d r d′
       (ruled-as (length d) true nonblocking false (rule.doneOn (p .settings .icanon) s (length d)) e (sym is-empty ∙ ne-eqb (i .ready) 0 some) refl) t
 
   pub done-now : (nonblocking t : Bool) (r : Answered) (d′ : List ℕ) → nonblocking ≡ false → t ≡ finds (p .settings) (i .ready) (p .waiting) (length d)
       → t ≡ true
-      → Takes p i bs ms d (rule.finish s part) r d′ → Takes p i bs ms d (rule.ruled s nonblocking (length d)) r d′
+      → ReadsFrom p i bs ms d (rule.finish s part) r d′ → ReadsFrom p i bs ms d (rule.ruled s nonblocking (length d)) r d′
   done-now nonblocking t r d′ e et yes′ k =
       as-read p i bs ms d r d′
       (ruled-as (length d) false nonblocking (rule.isEmpty (input.get i bs ms .finished)) true e refl (sym (is-done (length d)) ∙ sym et ∙ yes′)) k
@@ -172,7 +172,7 @@ module _ (p : Port) (i : Input) (bs ms d : List ℕ) (h : input.Sound i bs ms) w
       → t ≡ finds (p .settings) (i .ready) (p .waiting) (length d)
       → t ≡ false → ((ps : List Place) → length ps ≡ i .ready → b ≡ rule.begins (p .settings) ps (length d)) → w ≡ rule.waitsOn b (p .waiting)
       → q ≡ assembled p i (p .output) w → r ≡ record { port = q; answer = record { outcome = Wait; count = 0 } }
-      → Takes p i bs ms d (rule.ruled s nonblocking (length d)) r d
+      → ReadsFrom p i bs ms d (rule.ruled s nonblocking (length d)) r d
   waits-on nonblocking t b w q r e et no′ eb ew eq er =
       as-read p i bs ms d r d
       (ap (λ (y : Waiting). (withWaiting s y, says Wait 0)) (ew ∙ ap (λ (y : Waiting). rule.waitsOn y (p .waiting)) (eb (input.get i bs ms .finished) ready))
@@ -191,45 +191,45 @@ module _ (p : Port) (i : Input) (bs ms d : List ℕ) (h : input.Sound i bs ms) w
 
   module _ (nonblocking : Bool) (r : Answered) where
     pub hung-read : (q : Port) → p .hung ≡ true → q ≡ assembled p i (p .output) Idle → r ≡ record { port = q; answer = record { outcome = Ok; count = 0 } }
-        → Takes p i bs ms d (rule.read s nonblocking (length d)) r d
+        → ReadsFrom p i bs ms d (rule.read s nonblocking (length d)) r d
     hung-read q e eq er =
         as-read p i bs ms d r d
         (read-as nonblocking true (rule.clashes (p .waiting) nonblocking (length d)) (eqb (length d) 0) e refl refl)
         (none-taken Idle Ok q r refl eq er)
 
     pub clash-read : (t : Bool) → p .hung ≡ false → t ≡ rule.clashes (p .waiting) nonblocking (length d) → t ≡ true
-        → r ≡ record { port = p; answer = record { outcome = Refused ReadWaits; count = 0 } } → Takes p i bs ms d (rule.read s nonblocking (length d)) r d
+        → r ≡ record { port = p; answer = record { outcome = Refused ReadWaits; count = 0 } } → ReadsFrom p i bs ms d (rule.read s nonblocking (length d)) r d
     clash-read t e et taken er =
         as-read p i bs ms d r d (read-as nonblocking false true (eqb (length d) 0) e (sym et ∙ taken) refl)
         (refused-of (Refused ReadWaits) r refl er)
 
     pub none-read : (t : Bool) (q : Port) → p .hung ≡ false → t ≡ rule.clashes (p .waiting) nonblocking (length d) → t ≡ false → length d ≡ 0
         → q ≡ assembled p i (p .output) (p .waiting) → r ≡ record { port = q; answer = record { outcome = Ok; count = 0 } }
-        → Takes p i bs ms d (rule.read s nonblocking (length d)) r d
+        → ReadsFrom p i bs ms d (rule.read s nonblocking (length d)) r d
     none-read t q e et left z eq er =
         as-read p i bs ms d r d (read-as nonblocking false false true e (sym et ∙ left) (eq-eqb (length d) 0 z))
         (none-taken (p .waiting) Ok q r refl eq er)
 
     pub ruled-read : (t : Bool) (d′ : List ℕ) → p .hung ≡ false → t ≡ rule.clashes (p .waiting) nonblocking (length d) → t ≡ false → (length d ≡ 0 → ⊥)
-        → Takes p i bs ms d (rule.ruled s nonblocking (length d)) r d′ → Takes p i bs ms d (rule.read s nonblocking (length d)) r d′
+        → ReadsFrom p i bs ms d (rule.ruled s nonblocking (length d)) r d′ → ReadsFrom p i bs ms d (rule.read s nonblocking (length d)) r d′
     ruled-read t d′ e et left some k =
         as-read p i bs ms d r d′ (read-as nonblocking false false false e (sym et ∙ left) (ne-eqb (length d) 0 some)) k
 
 ---- The call
 
 module _ (p : Port) (bs ms : List ℕ) where
-  pub sound-places : (f : Input) (n : ℕ) → n ≡ places bs ms → f ≡ input.fitted n (p .input) → input.Sound f (take n bs) (take n ms)
+  pub sound-places : (f : Input) (n : ℕ) → n ≡ capacity bs ms → f ≡ input.fitted n (p .input) → input.Sound f (take n bs) (take n ms)
   sound-places f n en ef =
       subst (λ (y : Input). input.Sound y (take n bs) (take n ms)) (sym ef)
       (subst (λ (k : ℕ). input.Sound (input.fitted k (p .input)) (take k bs) (take k ms)) (sym en)
       (record {
         same = bytes-long bs ms ∙ sym (marks-long bs ms);
-        within = subst (λ (k : ℕ). input.Within (input.fitted (places bs ms) (p .input)) k) (sym (bytes-long bs ms))
-            (fitted-within (places bs ms) (p .input));
+        within = subst (λ (k : ℕ). input.Within (input.fitted (capacity bs ms) (p .input)) k) (sym (bytes-long bs ms))
+            (fitted-within (capacity bs ms) (p .input));
       }))
 
   -- the state of the layers below is what get reads
-  pub there : stateOf p (input.fitted (places bs ms) (p .input)) (take (places bs ms) bs) (take (places bs ms) ms) ≡ get p bs ms []
+  pub there : stateOf p (input.fitted (capacity bs ms) (p .input)) (take (capacity bs ms) bs) (take (capacity bs ms) ms) ≡ get p bs ms []
   unfolding get
   there =
       ap (λ (y : RuledInput). record {
@@ -241,18 +241,18 @@ module _ (p : Port) (bs ms : List ℕ) where
             p .hung;
         waiting = p .waiting;
       })
-      (ap (λ (k : ℕ). input.get (input.fitted k (p .input)) (take (places bs ms) bs) (take (places bs ms) ms)) (sym (bytes-long bs ms))
-      ∙ fitted-same (p .input) (take (places bs ms) bs) (take (places bs ms) ms) (bytes-long bs ms ∙ sym (marks-long bs ms)))
+      (ap (λ (k : ℕ). input.get (input.fitted k (p .input)) (take (capacity bs ms) bs) (take (capacity bs ms) ms)) (sym (bytes-long bs ms))
+      ∙ fitted-same (p .input) (take (capacity bs ms) bs) (take (capacity bs ms) ms) (bytes-long bs ms ∙ sym (marks-long bs ms)))
 
-  pub read-of : (f : Input) (n : ℕ) (d d′ : List ℕ) (nonblocking : Bool) (r : Answered) → n ≡ places bs ms → f ≡ input.fitted n (p .input)
-      → Takes p f (take n bs) (take n ms) d (rule.read (stateOf p f (take n bs) (take n ms)) nonblocking (length d)) r d′
+  pub read-of : (f : Input) (n : ℕ) (d d′ : List ℕ) (nonblocking : Bool) (r : Answered) → n ≡ capacity bs ms → f ≡ input.fitted n (p .input)
+      → ReadsFrom p f (take n bs) (take n ms) d (rule.read (stateOf p f (take n bs) (take n ms)) nonblocking (length d)) r d′
       → Reads p bs ms d nonblocking r d′
   read-of f n d d′ nonblocking r en ef t =
-      as-read p (input.fitted (places bs ms) (p .input)) (take (places bs ms) bs) (take (places bs ms) ms) d r d′
+      as-read p (input.fitted (capacity bs ms) (p .input)) (take (capacity bs ms) bs) (take (capacity bs ms) ms) d r d′
       (ap (λ (y : State). rule.read y nonblocking (length d)) there)
-      (subst (λ (k : ℕ). Takes p (input.fitted k (p .input)) (take k bs) (take k ms) d
+      (subst (λ (k : ℕ). ReadsFrom p (input.fitted k (p .input)) (take k bs) (take k ms) d
       (rule.read (stateOf p (input.fitted k (p .input)) (take k bs) (take k ms)) nonblocking (length d)) r d′) en
-      (subst (λ (y : Input). Takes p y (take n bs) (take n ms) d (rule.read (stateOf p y (take n bs) (take n ms)) nonblocking (length d)) r d′) ef t))
+      (subst (λ (y : Input). ReadsFrom p y (take n bs) (take n ms) d (rule.read (stateOf p y (take n bs) (take n ms)) nonblocking (length d)) r d′) ef t))
 
 ---- Cancel
 

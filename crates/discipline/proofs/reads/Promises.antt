@@ -20,19 +20,19 @@ use Rattle.input.specs.declared.Input.{Input}
 use Rattle.output.specs.Contract as output
 use Rattle.input.specs.reading.Contract as reading
 use Rattle.input.proofs.reading.Laws.{line-after, bytes-after}
-use Rattle.port.specs.State.{places, sizes, get}
+use Rattle.port.specs.State.{capacity, sizes, get}
 use Rattle.port.specs.Sending.{refused}
 use Rattle.port.specs.declared.Port.{Port}
 use Rattle.port.specs.declared.Answered.{Answered}
 use Rattle.port.specs.Calls.{stepOf, Now, cancelled}
 use Rattle.port.proofs.Promises.{same-state}
-use Rattle.discipline.specs.reads.Contract.{Reads, stateOf, took, Takes}
+use Rattle.discipline.specs.reads.Contract.{Reads, stateOf, took, ReadsFrom}
 use Rattle.discipline.proofs.reads.Laws.{sound-places, there, same-place}
 
 ---- No second result
 
-pub one-taken : {p : Port} {i : Input} {bs ms d : List ℕ} {w : State × Reply} {r q : Answered} {d′ e′ : List ℕ} → Takes p i bs ms d w r d′
-    → Takes p i bs ms d w q e′ → (r ≡ q) × (d′ ≡ e′)
+pub one-taken : {p : Port} {i : Input} {bs ms d : List ℕ} {w : State × Reply} {r q : Answered} {d′ e′ : List ℕ} → ReadsFrom p i bs ms d w r d′
+    → ReadsFrom p i bs ms d w q e′ → (r ≡ q) × (d′ ≡ e′)
 one-taken {r = r} {q = q} h k = (
   ap₂ (λ (y : Port) (a : Answer). record { port = y; answer = a }) (h .port ∙ sym (k .port)) (h .answer ∙ sym (k .answer)),
   h .buffer ∙ sym (k .buffer),
@@ -62,7 +62,7 @@ module _ (p : Port) (i : Input) (bs ms d : List ℕ) (h : input.Sound i bs ms) w
       input.put (reading.leaves (input.get i bs ms) (t .left))
       ((i .queue .head + reading.gone (input.get i bs ms) (reading.leaves (input.get i bs ms) (t .left))) % length bs)
 
-  reads-part : (t : rule.Part) → reading.Reads i bs ms d t (record { input = behind t; count = length (t .bytes) }) (t .bytes ++ drop (length (t .bytes)) d)
+  reads-part : (t : rule.Part) → reading.ReadsPart i bs ms d t (record { input = behind t; count = length (t .bytes) }) (t .bytes ++ drop (length (t .bytes)) d)
   reads-part t = record { count = refl; input = refl; buffer = refl }
 
   part-left : (c : Bool)
@@ -145,7 +145,7 @@ pub record ReadNow (p : Port) (bs ms os d : List ℕ) (nonblocking : Bool) (r : 
 
 module _ (p : Port) (bs ms os d : List ℕ) (nonblocking : Bool) where
   abbrev N : ℕ
-  N = places bs ms
+  N = capacity bs ms
 
   abbrev i₀ : Input
   i₀ = input.fitted N (p .input)

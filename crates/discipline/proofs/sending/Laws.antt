@@ -18,7 +18,7 @@ use Rattle.output.specs.Contract as output
 use Rattle.output.specs.declared.Output.{Output}
 use Rattle.output.specs.declared.Wrote.{Wrote}
 use Rattle.port.specs.State.{get, withOutput}
-use Rattle.port.specs.Sending.{keeps, writtenBy, written, result, transmitted, Outcomes}
+use Rattle.port.specs.Sending.{keeps, afterWriteBy, afterWrite, result, afterTransmit, Outcomes}
 use Rattle.port.specs.declared.Port.{Port}
 use Rattle.port.specs.declared.Answered.{Answered}
 use native.Mathlib.Omega.{arith}
@@ -30,8 +30,8 @@ use Rattle.discipline.specs.sending.Contract.{second, third, MovesThroug
 
 module _ (p : Port) (os src : List ℕ) where
   pub hung-of : (a : Answered) → a ≡ record { port = p; answer = record { outcome = Refused HungUp; count = 0 } } → p .hung ≡ true
-      → result a os src ≡ written p os src
-  unfolding written get
+      → result a os src ≡ afterWrite p os src
+  unfolding afterWrite get
   hung-of a e h = ap (λ (y : Answered). result y os src) e ∙ rw h
 
   module _ (w : Wrote) (m : List ℕ) (b : output.Writes (p .settings) (p .output) os src w m) (h : p .hung ≡ false) where
@@ -47,31 +47,31 @@ module _ (p : Port) (os src : List ℕ) where
         ∙ sym (laid-again (o .queue) os)
 
     pub none-of : (a : Answered) (t : Bool) → a ≡ record { port = p; answer = record { outcome = Refused Nothing; count = 0 } }
-        → t ≡ (ltb 0 (length src) && eqb (w .count) 0) → t ≡ true → w .count ≡ 0 → result a m src ≡ written p os src
-    unfolding written get output.get
+        → t ≡ (ltb 0 (length src) && eqb (w .count) 0) → t ≡ true → w .count ≡ 0 → result a m src ≡ afterWrite p os src
+    unfolding afterWrite get output.get
     none-of a t e f g z =
         ap (λ (y : Answered). result y m src) e
         ∙ ap (λ (y : List ℕ). keeps p y src (record { outcome = Refused Nothing; count = 0 })) (untouched z)
         ∙ rw (h, ← b .count, ← f, g)
 
-    as-counted : output.Becomes (p .output) os (rule.written (p .settings) (output.get (p .output) os) (take (w .count) src)) (w .output) m
+    as-counted : output.OutputBecomes (p .output) os (rule.written (p .settings) (output.get (p .output) os) (take (w .count) src)) (w .output) m
     as-counted = rw (b .count) (b .output)
 
     -- the rule, where the port is not hung up and something is taken
     opened : (t : Bool) → t ≡ (ltb 0 (length src) && eqb (w .count) 0) → t ≡ false
-        → written p os src
-        ≡ writtenBy (rule.writtenOn false false (get p [] [] os) src (w .count)) p os src
-    unfolding written get output.get
+        → afterWrite p os src
+        ≡ afterWriteBy (rule.writtenOn false false (get p [] [] os) src (w .count)) p os src
+    unfolding afterWrite get output.get
     opened t f g =
         let n : ℕ = output.takes (p .settings) (p .output) os src in
-        ap (λ (y : Bool). writtenBy (rule.writtenOn y (ltb 0 (length src) && eqb n 0) (get p [] [] os) src n) p os src) h
-        ∙ ap (λ (y : ℕ). writtenBy (rule.writtenOn false (ltb 0 (length src) && eqb y 0) (get p [] [] os) src y) p os src) (sym (b .count))
-        ∙ ap (λ (y : Bool). writtenBy (rule.writtenOn false y (get p [] [] os) src (w .count)) p os src) (sym f ∙ g)
+        ap (λ (y : Bool). afterWriteBy (rule.writtenOn y (ltb 0 (length src) && eqb n 0) (get p [] [] os) src n) p os src) h
+        ∙ ap (λ (y : ℕ). afterWriteBy (rule.writtenOn false (ltb 0 (length src) && eqb y 0) (get p [] [] os) src y) p os src) (sym (b .count))
+        ∙ ap (λ (y : Bool). afterWriteBy (rule.writtenOn false y (get p [] [] os) src (w .count)) p os src) (sym f ∙ g)
 
     pub some-of : (a : Answered) (q : Port) (t : Bool) → q ≡ withOutput p (w .output)
         → a ≡ record { port = q; answer = record { outcome = Ok; count = w .count } }
-        → t ≡ (ltb 0 (length src) && eqb (w .count) 0) → t ≡ false → result a m src ≡ written p os src
-    unfolding written get output.get
+        → t ≡ (ltb 0 (length src) && eqb (w .count) 0) → t ≡ false → result a m src ≡ afterWrite p os src
+    unfolding afterWrite get output.get
     some-of a q t eq e f g =
         ap (λ (y : Answered). result y m src) e
         ∙ ap (λ (y : Port). result (record { port = y; answer = record { outcome = Ok; count = w .count } }) m src) eq
@@ -85,14 +85,14 @@ module _ (p : Port) (os src : List ℕ) where
 
 ---- A write leaves the slice as long as it was
 
-size-by : (a b : Bool) (p : Port) (s : State) (os src : List ℕ) (n : ℕ) → length (writtenBy (rule.writtenOn a b s src n) p os src .slice) ≡ length os
+size-by : (a b : Bool) (p : Port) (s : State) (os src : List ℕ) (n : ℕ) → length (afterWriteBy (rule.writtenOn a b s src n) p os src .slice) ≡ length os
 size-by true b p s os src n = refl
 size-by false true p s os src n = refl
 size-by false false p s os src n =
     stores-length (length os) (p .output .queue .head % length os) os (rule.written (s .settings) (s .output) (take n src) .queue)
 
-pub size-written : (p : Port) (os src : List ℕ) → length (written p os src .slice) ≡ length os
-unfolding written get
+pub size-written : (p : Port) (os src : List ℕ) → length (afterWrite p os src .slice) ≡ length os
+unfolding afterWrite get
 size-written p os src =
     let n : ℕ = rule.taken (length os) (p .settings) (length (output.get (p .output) os .queue)) (output.get (p .output) os .column) src in
     size-by (p .hung) (ltb 0 (length src) && eqb n 0) p (get p [] [] os) os src n
@@ -128,8 +128,8 @@ left-there o os d =
     ∙ ap (stores N os ((h + k) % N)) (sym (drop-ring N k n h os le))
 
 pub sent-of : (p q : Port) (os d d′ : List ℕ) (r : Sent) (a : Answered) → output.Sends (p .output) os d r d′ → q ≡ withOutput p (r .output)
-    → a ≡ record { port = q; answer = record { outcome = Ok; count = r .count } } → result a os d′ ≡ transmitted p os d
-unfolding transmitted get output.get
+    → a ≡ record { port = q; answer = record { outcome = Ok; count = r .count } } → result a os d′ ≡ afterTransmit p os d
+unfolding afterTransmit get output.get
 sent-of p q os d d′ r a b eq e =
     ap (λ (y : Answered). result y os d′) e
     ∙ ap (λ (y : Port). result (record { port = y; answer = record { outcome = Ok; count = r .count } }) os d′) eq
@@ -154,25 +154,25 @@ taken-le N x n c (b ∷ bs) =
     by false le = omega arith
 
 count-by : (a b : Bool) (p : Port) (s : State) (os src : List ℕ) (n : ℕ) → n ≤ length src
-    → writtenBy (rule.writtenOn a b s src n) p os src .answer .count ≤ length src
+    → afterWriteBy (rule.writtenOn a b s src n) p os src .answer .count ≤ length src
 count-by true b p s os src n le = omega arith
 count-by false true p s os src n le = omega arith
 count-by false false p s os src n le = le
 
-pub count-le : (p : Port) (os src : List ℕ) → written p os src .answer .count ≤ length src
-unfolding written get
+pub count-le : (p : Port) (os src : List ℕ) → afterWrite p os src .answer .count ≤ length src
+unfolding afterWrite get
 count-le p os src =
     let n : ℕ = rule.taken (length os) (p .settings) (length (output.get (p .output) os .queue)) (output.get (p .output) os .column) src in
     count-by (p .hung) (ltb 0 (length src) && eqb n 0) p (get p [] [] os) os src n
     (taken-le (length os) (p .settings) (length (output.get (p .output) os .queue)) (output.get (p .output) os .column) src)
 
 -- the three calls one after another
-pub through-of : (p : Port) (os src d d′ m k : List ℕ) (a b c : Answered) → result a m src ≡ written p os src
-    → result b m d′ ≡ transmitted (a .port) m d → result c k (drop (a .answer .count) src) ≡ written (b .port) m (drop (a .answer .count) src)
+pub through-of : (p : Port) (os src d d′ m k : List ℕ) (a b c : Answered) → result a m src ≡ afterWrite p os src
+    → result b m d′ ≡ afterTransmit (a .port) m d → result c k (drop (a .answer .count) src) ≡ afterWrite (b .port) m (drop (a .answer .count) src)
     → MovesThrough p os src d (record { port = c .port; written = a .answer .count + c .answer .count; given = b .answer .count }) k d′
 through-of p os src d d′ m k a b c e f g =
-    let f′ : result b m d′ ≡ second p os src d = f ∙ ap (λ (y : Outcomes). transmitted (y .port) (y .slice) d) e in
-    let rest : Outcomes → Outcomes → Outcomes = λ y z. written (y .port) (y .slice) (drop (z .answer .count) src) in
+    let f′ : result b m d′ ≡ second p os src d = f ∙ ap (λ (y : Outcomes). afterTransmit (y .port) (y .slice) d) e in
+    let rest : Outcomes → Outcomes → Outcomes = λ y z. afterWrite (y .port) (y .slice) (drop (z .answer .count) src) in
     let g′ : result c k (drop (a .answer .count) src) ≡ third p os src d =
     g ∙ ap (λ (y : Outcomes). rest y (result a m src)) f′ ∙ ap (rest (second p os src d)) e in
     record {
@@ -190,8 +190,8 @@ the-rest n src = take-all (length src - n) (drop n src) (rw length-drop (omega a
 
 -- the second write is of the rest
 pub rest-of : (c : Answered) (k : List ℕ) (q : Port) (m src : List ℕ) (n j : ℕ) → n ≡ j
-    → result c k (take (length src - n) (drop n src)) ≡ written q m (take (length src - n) (drop n src))
-    → result c k (drop j src) ≡ written q m (drop j src)
+    → result c k (take (length src - n) (drop n src)) ≡ afterWrite q m (take (length src - n) (drop n src))
+    → result c k (drop j src) ≡ afterWrite q m (drop j src)
 rest-of c k q m src n j e g =
     let r : take (length src - n) (drop n src) ≡ drop j src = the-rest n src ∙ ap (λ (y : ℕ). drop y src) e in
-    ap (result c k) (sym r) ∙ g ∙ ap (written q m) r
+    ap (result c k) (sym r) ∙ g ∙ ap (afterWrite q m) r

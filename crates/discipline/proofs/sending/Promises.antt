@@ -11,7 +11,7 @@ use Rattle.rules.proofs.OutputLaws.{taken-fits}
 use Rattle.output.specs.Contract as output
 use Rattle.output.proofs.Laws as law
 use Rattle.port.specs.State.{sizes, get}
-use Rattle.port.specs.Sending.{writtenBy, written, transmitted}
+use Rattle.port.specs.Sending.{afterWriteBy, afterWrite, afterTransmit}
 use Rattle.port.specs.declared.Port.{Port}
 use Rattle.port.proofs.Results.{get-with}
 use native.Mathlib.Omega.{arith}
@@ -36,16 +36,16 @@ for-any-input p bs ms os src = by (p .hung) (ltb 0 (length src) && eqb n 0)
 ---- The state after
 
 pub state-written : (p : Port) (bs ms os src : List ℕ)
-    → get (written p os src .port) bs ms (written p os src .slice) ≡ rule.write (sizes p bs ms os) (get p bs ms os) src .0
-unfolding written get
+    → get (afterWrite p os src .port) bs ms (afterWrite p os src .slice) ≡ rule.write (sizes p bs ms os) (get p bs ms os) src .0
+unfolding afterWrite get
 state-written p bs ms os src = by (p .hung) (ltb 0 (length src) && eqb n 0)
   where
     n : ℕ
     n = rule.taken (length os) (p .settings) (length (output.get (p .output) os .queue)) (output.get (p .output) os .column) src
 
     by : (a b : Bool)
-        → get (writtenBy (rule.writtenOn a b (get p [] [] os) src n) p os src .port) bs ms
-        (writtenBy (rule.writtenOn a b (get p [] [] os) src n) p os src .slice)
+        → get (afterWriteBy (rule.writtenOn a b (get p [] [] os) src n) p os src .port) bs ms
+        (afterWriteBy (rule.writtenOn a b (get p [] [] os) src n) p os src .slice)
         ≡ rule.writtenOn a b (get p bs ms os) src n .0
     by true b = refl
     by false true = refl
@@ -61,8 +61,8 @@ unfolding get
 transmits-for-any-input p bs ms os n = refl
 
 pub state-transmitted : (p : Port) (bs ms os d : List ℕ)
-    → get (transmitted p os d .port) bs ms (transmitted p os d .slice) ≡ rule.transmit (get p bs ms os) (length d) .0
-unfolding transmitted get
+    → get (afterTransmit p os d .port) bs ms (afterTransmit p os d .slice) ≡ rule.transmit (get p bs ms os) (length d) .0
+unfolding afterTransmit get
 state-transmitted p bs ms os d =
     let k : ℕ = length (rule.oldest (output.get (p .output) os) (length d)) in
     get-with p bs ms os (rule.transmit (get p [] [] os) (length d) .0 .output) ((p .output .queue .head + k) % length os)

@@ -13,7 +13,7 @@ use Rattle.rules.specs.Verdicts as verdict
 use Rattle.port.specs.State.{get}
 use Rattle.port.specs.declared.Port.{Port}
 use Rattle.port.specs.declared.Answered.{Answered}
-use Rattle.port.specs.Calls.{stepOf, withGroup, grouped, answered}
+use Rattle.port.specs.Calls.{stepOf, withGroup, grouped, unchanged}
 use borrow.Author.Tests.{eq-eqb, ne-eqb}
 use Rattle.rules.specs.declared.Process.{Process}
 use Rattle.rules.specs.declared.Verdict.{Verdict}
@@ -44,22 +44,22 @@ module _ (p : Port) (group : ℕ) (orphaned : Bool) (a : Answered) (t : Bool) (e
 
 module _ (p : Port) (who : Process) (v : Verdict) (a : Answered) (t : Bool) (et : t ≡ verdict.tooLarge (who .group)) where
   judged-as : (u : Bool) → (verdict.tooLarge (who .group) || eqb (who .group) 0) ≡ u
-      → answered p (verdict.judgedOn u (get p [] [] []) v) ≡ answered p (verdict.judged (get p [] [] []) who v)
-  judged-as u e = ap (λ (y : Bool). answered p (verdict.judgedOn y (get p [] [] []) v)) (sym e)
+      → unchanged p (verdict.judgedOn u (get p [] [] []) v) ≡ unchanged p (verdict.judged (get p [] [] []) who v)
+  judged-as u e = ap (λ (y : Bool). unchanged p (verdict.judgedOn y (get p [] [] []) v)) (sym e)
 
   pub judged-large : t ≡ true → a ≡ record { port = p; answer = record { outcome = Refused OutOfRange; count = 0 } }
-      → a ≡ answered p (verdict.judged (get p [] [] []) who v)
+      → a ≡ unchanged p (verdict.judged (get p [] [] []) who v)
   judged-large e ea = ea ∙ judged-as true (ap (λ (y : Bool). y || eqb (who .group) 0) (sym et ∙ e))
 
   pub judged-none : t ≡ false → who .group ≡ 0 → a ≡ record { port = p; answer = record { outcome = Refused OutOfRange; count = 0 } }
-      → a ≡ answered p (verdict.judged (get p [] [] []) who v)
+      → a ≡ unchanged p (verdict.judged (get p [] [] []) who v)
   judged-none e z ea = ea ∙ judged-as true (ap (λ (y : Bool). y || eqb (who .group) 0) (sym et ∙ e) ∙ eq-eqb (who .group) 0 z)
 
   pub judged-given : t ≡ false → (who .group ≡ 0 → ⊥) → a ≡ record { port = p; answer = record { outcome = Judged v; count = 0 } }
-      → a ≡ answered p (verdict.judged (get p [] [] []) who v)
+      → a ≡ unchanged p (verdict.judged (get p [] [] []) who v)
   judged-given e some ea = ea ∙ judged-as false (ap (λ (y : Bool). y || eqb (who .group) 0) (sym et ∙ e) ∙ ne-eqb (who .group) 0 some)
 
 -- the verdict that the rules give
-pub verdict-of : (p : Port) (who : Process) (v : Verdict) {u : Verdict} → v ≡ u → (a : Answered) → a ≡ answered p (verdict.judged (get p [] [] []) who v)
-    → a ≡ answered p (verdict.judged (get p [] [] []) who u)
-verdict-of p who v e a ea = ea ∙ ap (λ (y : Verdict). answered p (verdict.judged (get p [] [] []) who y)) e
+pub verdict-of : (p : Port) (who : Process) (v : Verdict) {u : Verdict} → v ≡ u → (a : Answered) → a ≡ unchanged p (verdict.judged (get p [] [] []) who v)
+    → a ≡ unchanged p (verdict.judged (get p [] [] []) who u)
+verdict-of p who v e a ea = ea ∙ ap (λ (y : Verdict). unchanged p (verdict.judged (get p [] [] []) who y)) e

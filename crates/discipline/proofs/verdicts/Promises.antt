@@ -10,7 +10,7 @@ use Rattle.port.specs.State.{sizes, get}
 use Rattle.port.specs.declared.Port.{Port}
 use Rattle.port.specs.declared.Answered.{Answered}
 use Rattle.port.specs.Layers.{state}
-use Rattle.port.specs.Calls.{stepOf, grouped, Now, answered}
+use Rattle.port.specs.Calls.{stepOf, grouped, Now, unchanged}
 use lib.Dec.{eqb}
 use Rattle.rules.specs.declared.Process.{Process}
 use Rattle.rules.specs.declared.Verdict.{Verdict}
@@ -39,7 +39,7 @@ module _ (p : Port) (bs ms os : List ℕ) where
 
 module _ (p : Port) (bs ms os : List ℕ) where
   -- a verdict v, the same whatever the slices are
-  judged-now : (who : Process) (v : Verdict) (r : Answered) → r ≡ answered p (verdict.judged (get p [] [] []) who v)
+  judged-now : (who : Process) (v : Verdict) (r : Answered) → r ≡ unchanged p (verdict.judged (get p [] [] []) who v)
       → Now p bs ms os (verdict.judged (get p bs ms os) who v .0) (r .port) bs ms os × (r .answer ≡ verdict.judged (get p bs ms os) who v .1 .answer)
   judged-now who v r e = (
     record {
@@ -56,17 +56,17 @@ module _ (p : Port) (bs ms os : List ℕ) where
       by false = (refl, refl)
 
   module _ (who : Process) (r : Answered) where
-    pub read-judged : r ≡ answered p (stepOf p [] [] [] (ReadVerdict who) [])
+    pub read-judged : r ≡ unchanged p (stepOf p [] [] [] (ReadVerdict who) [])
         → Now p bs ms os (stepOf p bs ms os (ReadVerdict who) [] .0) (r .port) bs ms os × (r .answer ≡ stepOf p bs ms os (ReadVerdict who) [] .1 .answer)
     unfolding get
     read-judged e = judged-now who (verdict.readVerdict (p .foreground) who) r e
 
-    pub write-judged : r ≡ answered p (stepOf p [] [] [] (WriteVerdict who) [])
+    pub write-judged : r ≡ unchanged p (stepOf p [] [] [] (WriteVerdict who) [])
         → Now p bs ms os (stepOf p bs ms os (WriteVerdict who) [] .0) (r .port) bs ms os × (r .answer ≡ stepOf p bs ms os (WriteVerdict who) [] .1 .answer)
     unfolding get
     write-judged e = judged-now who (verdict.writeVerdict (p .settings .tostop) (p .foreground) who) r e
 
-    pub settings-judged : r ≡ answered p (stepOf p [] [] [] (SettingsVerdict who) [])
+    pub settings-judged : r ≡ unchanged p (stepOf p [] [] [] (SettingsVerdict who) [])
         → Now p bs ms os (stepOf p bs ms os (SettingsVerdict who) [] .0) (r .port) bs ms os
         × (r .answer ≡ stepOf p bs ms os (SettingsVerdict who) [] .1 .answer)
     unfolding get

@@ -12,7 +12,7 @@ use Rattle.rules.specs.Refusals.{Reply}
 use Rattle.input.specs.declared.Input.{Input}
 use Rattle.input.specs.Contract.{fitted}
 use Rattle.output.specs.declared.Output.{Output}
-use Rattle.port.specs.State.{places}
+use Rattle.port.specs.State.{capacity}
 use Rattle.port.specs.Sending.{refused}
 use Rattle.port.specs.declared.Port.{Port}
 use Rattle.port.specs.declared.Answered.{Answered}
@@ -38,10 +38,10 @@ withSettings p x i o =
 pub record Changed (p : Port) (bs ms : List ℕ) (x : Settings) (r : Port) (bs′ ms′ : List ℕ) : Type 0 where
   pub port : r ≡ withSettings p x (r .input) (resumed (p .settings .ixon) (x .ixon) (p .output))
   pub input :
-      Changes (p .settings .icanon) (x .icanon) (fitted (places bs ms) (p .input)) (take (places bs ms) bs) (take (places bs ms) ms)
-      (r .input) (take (places bs ms) bs′) (take (places bs ms) ms′)
-  pub bytes : drop (places bs ms) bs′ ≡ drop (places bs ms) bs
-  pub marks : drop (places bs ms) ms′ ≡ drop (places bs ms) ms
+      Changes (p .settings .icanon) (x .icanon) (fitted (capacity bs ms) (p .input)) (take (capacity bs ms) bs) (take (capacity bs ms) ms)
+      (r .input) (take (capacity bs ms) bs′) (take (capacity bs ms) ms′)
+  pub bytes : drop (capacity bs ms) bs′ ≡ drop (capacity bs ms) bs
+  pub marks : drop (capacity bs ms) ms′ ≡ drop (capacity bs ms) ms
 
 -- 'A refusal returns its number and count 0; port and buffers keep every byte.'
 abbrev pub SetLeaves : Bool → Port → List ℕ → List ℕ → Settings → Port → List ℕ → List ℕ → Type 0

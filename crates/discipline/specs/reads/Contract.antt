@@ -19,7 +19,7 @@ use lib.Dec.{ltb}
 use Rattle.rules.specs.declared.Settings.{Settings}
 use Rattle.rules.specs.declared.Waiting.{Waiting}
 use Rattle.rules.specs.declared.Call.the-variants.{Read}
-use Rattle.port.specs.State.{places}
+use Rattle.port.specs.State.{capacity}
 use Rattle.port.specs.Calls.{stepOf}
 
 -- the port with the input i as a state; a read does not look at the output
@@ -40,14 +40,14 @@ took p i bs ms w =
     assembled p (put (w .input) ((i .queue .head + gone (get i bs ms) (w .input)) % length bs)) (p .output) (w .waiting)
 
 -- A read on the input i. On a refusal the port is as it was.
-pub record Takes (p : Port) (i : Input) (bs ms d : List ℕ) (w : State × Reply) (r : Answered) (d′ : List ℕ) : Type 0 where
+pub record ReadsFrom (p : Port) (i : Input) (bs ms d : List ℕ) (w : State × Reply) (r : Answered) (d′ : List ℕ) : Type 0 where
   pub answer : r .answer ≡ w .1 .answer
   pub buffer : d′ ≡ lentAfter d (w .1)
   pub port : r .port ≡ cond (refused (w .1 .answer)) p (took p i bs ms (w .0))
 
 -- The same by a rule: what it answers to a read of as many bytes as the buffer d has.
-abbrev pub TakesBy : (State → ℕ → State × Reply) → Port → Input → List ℕ → List ℕ → List ℕ → Answered → List ℕ → Type 0
-TakesBy rule p i bs ms d r d′ = Takes p i bs ms d (rule (stateOf p i bs ms) (length d)) r d′
+abbrev pub ReadsBy : (State → ℕ → State × Reply) → Port → Input → List ℕ → List ℕ → List ℕ → Answered → List ℕ → Type 0
+ReadsBy rule p i bs ms d r d′ = ReadsFrom p i bs ms d (rule (stateOf p i bs ms) (length d)) r d′
 
 -- the read is done: it takes what there is of its n bytes
 abbrev pub done : State → ℕ → State × Reply
@@ -65,4 +65,4 @@ finds x finished w n = cond (x .icanon) (ltb 0 finished) (enough x n finished ||
 -- A read of as many bytes as the buffer d has, of the places that both slices have.
 abbrev pub Reads : Port → List ℕ → List ℕ → List ℕ → Bool → Answered → List ℕ → Type 0
 Reads p bs ms d nonblocking r d′ =
-    Takes p (fitted (places bs ms) (p .input)) (take (places bs ms) bs) (take (places bs ms) ms) d (stepOf p bs ms [] (Read nonblocking) d) r d′
+    ReadsFrom p (fitted (capacity bs ms) (p .input)) (take (capacity bs ms) bs) (take (capacity bs ms) ms) d (stepOf p bs ms [] (Read nonblocking) d) r d′

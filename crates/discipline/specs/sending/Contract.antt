@@ -5,19 +5,19 @@ use mathlib.Core.List.{List}
 use lib.ListN.{drop}
 use Rattle.port.specs.declared.Port.{Port}
 use Rattle.discipline.specs.declared.sending.Moved.{Moved}
-use Rattle.port.specs.Sending.{Outcomes, written, transmitted}
+use Rattle.port.specs.Sending.{Outcomes, afterWrite, afterTransmit}
 
 ---- A write that goes on from the rest: as much of src as the port takes, then what transmit gives into d, then the rest
 
 abbrev pub first : Port → List ℕ → List ℕ → Outcomes
-first p os src = written p os src
+first p os src = afterWrite p os src
 
 abbrev pub second : Port → List ℕ → List ℕ → List ℕ → Outcomes
-second p os src d = transmitted (first p os src .port) (first p os src .slice) d
+second p os src d = afterTransmit (first p os src .port) (first p os src .slice) d
 
 abbrev pub third : Port → List ℕ → List ℕ → List ℕ → Outcomes
 third p os src d =
-    written (second p os src d .port) (second p os src d .slice) (drop (first p os src .answer .count) src)
+    afterWrite (second p os src d .port) (second p os src d .slice) (drop (first p os src .answer .count) src)
 
 pub record MovesThrough (p : Port) (os src d : List ℕ) (r : Moved) (os′ d′ : List ℕ) : Type 0 where
   pub port : r .port ≡ third p os src d .port

@@ -9,10 +9,10 @@ use lib.Seq.{length-take-le}
 use lib.Dec.{leb}
 use borrow.Author.Tests.{leb-true}
 use Rattle.rules.specs.Trace.{aRecord, cut, two}
-use Rattle.discreet.specs.alike.Statement.{Rec, encoded, written, Ends, atEnd, inRecord, Bytes, EveryTrace}
+use Rattle.discreet.specs.alike.Statement.{Rec, encoded, encodedAll, Ends, atEnd, inRecord, Bytes, EveryTrace}
 
 abbrev Split : List ℕ → Type 0
-Split l = (rs : List Rec) × (tail : List ℕ) × Ends tail × (l ≡ written rs ++ tail)
+Split l = (rs : List Rec) × (tail : List ℕ) × Ends tail × (l ≡ encodedAll rs ++ tail)
 
 drop-bytes : (n : ℕ) (l : List ℕ) → Bytes l → Bytes (drop n l)
 drop-bytes zero l h = h
@@ -32,7 +32,7 @@ rewritten a b c d body l rest e la lc h =
 
 one-more : (r : Rec) (l rest : List ℕ) → l ≡ encoded r ++ rest → Split rest → Split l
 one-more r l rest h (rs, tail, e, g) =
-    (r ∷ rs, tail, e, h ∙ ap (λ (y : List ℕ). encoded r ++ y) g ∙ sym (append-assoc (encoded r) (written rs) tail))
+    (r ∷ rs, tail, e, h ∙ ap (λ (y : List ℕ). encoded r ++ y) g ∙ sym (append-assoc (encoded r) (encodedAll rs) tail))
 
 -- a header stands in front: the record is whole, and what comes after it is split, or it is cut
 module _ (a b c d : ℕ) (l : List ℕ) (h : Bytes (a ∷ b ∷ c ∷ d ∷ l)) where

@@ -4,7 +4,7 @@ use mathlib.Core.Path.{_≡_, refl}
 use mathlib.Core.List.{List, [], _∷_, _++_}
 use Rattle.rules.specs.Trace.{text, trace}
 use Rattle.secrecy.specs.Statement.{Each, none, more, Quiet, good}
-use Rattle.discreet.specs.alike.Statement.{Rec, written, Ends, inRecord, RecordsDiffer, same, differ, settingsAfter}
+use Rattle.discreet.specs.alike.Statement.{Rec, encodedAll, Ends, inRecord, RecordsDiffer, same, differ, settingsAfter}
 
 -- the default settings, but ECHO clear and WERASE disabled
 abbrev silent : List Rec
@@ -35,8 +35,8 @@ abbrev lines : List ℕ → List ℕ
 lines read =
     text "0 1 ok 0 -\n" ++ text "1 2 ok 1 -\n" ++ text "2 2 ok 1 -\n" ++ text "3 8 ok 2 " ++ read ++ text "\n" ++ text "4 10 ok 0 -\n" ++ text "5 cut\n"
 
-pub prints-a : trace (written silent ++ (written (typed 97) ++ (7 ∷ []))) ≡ lines (text "610a")
+pub prints-a : trace (encodedAll silent ++ (encodedAll (typed 97) ++ (7 ∷ []))) ≡ lines (text "610a")
 prints-a = refl
 
-pub prints-b : trace (written silent ++ (written (typed 98) ++ (7 ∷ []))) ≡ lines (text "620a")
+pub prints-b : trace (encodedAll silent ++ (encodedAll (typed 98) ++ (7 ∷ []))) ≡ lines (text "620a")
 prints-b = refl

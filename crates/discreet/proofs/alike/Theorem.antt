@@ -17,7 +17,7 @@ use Rattle.secrecy.proofs.Theorem.{secrecy}
 use Rattle.secrecy.proofs.Given.{same-delivered}
 use Rattle.trace.proofs.gathering.Rules.{fronted, by-front}
 use Rattle.discreet.proofs.alike.Given.{record-gives-none}
-use Rattle.discreet.specs.alike.Statement.{Rec, encoded, written, Ends, atEnd, inRecord, meant, asked, callsOf, Keeps, RecordsDiffer}
+use Rattle.discreet.specs.alike.Statement.{Rec, encoded, encodedAll, Ends, atEnd, inRecord, meant, asked, callsOf, Keeps, RecordsDiffer}
 use Rattle.discreet.specs.alike.Statement.{PrintedAlike, ends, prints, FromState, settingsAfter, Demand3Traces}
 
 ---- What stands at the front
@@ -44,10 +44,10 @@ by-record z m i s r l = by-front z m i s (encoded r ++ l) ∙ ap (fronted z m i 
 
 -- the first of the records, then the others
 by-records : (z : Sizes) (m i : ℕ) (s : State) (r : Rec) (rs : List Rec) (l : List ℕ)
-    → traceFrom z (suc m) i s (written (r ∷ rs) ++ l)
-    ≡ line i (r .kind) (answered z s (meant r) .1) ++ traceFrom z m (suc i) (answered z s (meant r) .0) (written rs ++ l)
+    → traceFrom z (suc m) i s (encodedAll (r ∷ rs) ++ l)
+    ≡ line i (r .kind) (answered z s (meant r) .1) ++ traceFrom z m (suc i) (answered z s (meant r) .0) (encodedAll rs ++ l)
 by-records z m i s r rs l =
-    ap (traceFrom z (suc m) i s) (append-assoc (encoded r) (written rs) l) ∙ by-record z m i s r (written rs ++ l)
+    ap (traceFrom z (suc m) i s) (append-assoc (encoded r) (encodedAll rs) l) ∙ by-record z m i s r (encodedAll rs ++ l)
 
 ---- Calls of records that differ
 
@@ -127,21 +127,21 @@ module _ (x : Settings) (one other : List Asked) where
 
     printed : (m i : ℕ) (s t : State) (rs ts : List Rec) (tail : List ℕ) → Each (RecordsDiffer x) rs ts → Ends tail
         → Each (Alike x one other) (run z s (callsOf rs)) (run z t (callsOf ts))
-        → PrintedAlike x one other (traceFrom z m i s (written rs ++ tail)) (traceFrom z m i t (written ts ++ tail))
+        → PrintedAlike x one other (traceFrom z m i s (encodedAll rs ++ tail)) (traceFrom z m i t (encodedAll ts ++ tail))
     printed m i s t [] [] tail none e h = alike-equal _ _ (ended m i s t tail e)
     printed zero i s t (r ∷ rs) (v ∷ ts) tail (more d ds) e h = ends
     printed (suc m) i s t (r ∷ rs) (v ∷ ts) tail (more d ds) e h =
         let n : Next s t (meant r) (meant v) (callsOf rs) (callsOf ts) = next s t r v (callsOf rs) (callsOf ts) d h in
         let go : PrintedAlike x one other
-        (traceFrom z m (suc i) (answered z s (meant r) .0) (written rs ++ tail))
-        (traceFrom z m (suc i) (answered z t (meant v) .0) (written ts ++ tail))
+        (traceFrom z m (suc i) (answered z s (meant r) .0) (encodedAll rs ++ tail))
+        (traceFrom z m (suc i) (answered z t (meant v) .0) (encodedAll ts ++ tail))
         = printed m (suc i) (answered z s (meant r) .0) (answered z t (meant v) .0) rs ts tail ds e (n .later) in
         two-lines i (r .kind) (v .kind) (answered z s (meant r) .1) (answered z t (meant v) .1) _ _ _ _
         (by-records z m i s r rs tail) (by-records z m i t v ts tail) (kind-same r v d) (n .now) (given-same s t r v (kind-same r v d)) go
 
 from-here : (z : Sizes) (rs ts : List Rec) (tail : List ℕ) (x : Settings) → Quiet x → Each (RecordsDiffer x) rs ts → Ends tail
     → (limit index : ℕ) (s : State) → s .settings ≡ x
-    → PrintedAlike x (callsOf rs) (callsOf ts) (traceFrom z limit index s (written rs ++ tail)) (traceFrom z limit index s (written ts ++ tail))
+    → PrintedAlike x (callsOf rs) (callsOf ts) (traceFrom z limit index s (encodedAll rs ++ tail)) (traceFrom z limit index s (encodedAll ts ++ tail))
 from-here z rs ts tail x q ds e limit index s h =
     let Runs : Settings → Type 0 = λ y. Each (Alike y (callsOf rs) (callsOf ts)) (run z s (callsOf rs)) (run z s (callsOf ts)) in
     printed x (callsOf rs) (callsOf ts) z limit index s s rs ts tail ds e
@@ -181,8 +181,8 @@ follow-line x one other head rest common fore first after second c u v (l, m, d,
 module _ (z : Sizes) (rs ts : List Rec) (tail : List ℕ) (x : Settings) (q : Quiet x) (ds : Each (RecordsDiffer x) rs ts) (e : Ends tail) where
   abbrev Led : ℕ → ℕ → State → List Rec → Type 0
   Led limit index s before =
-      Follow x (callsOf rs) (callsOf ts) (traceFrom z limit index s (written before))
-      (traceFrom z limit index s (written before ++ (written rs ++ tail))) (traceFrom z limit index s (written before ++ (written ts ++ tail)))
+      Follow x (callsOf rs) (callsOf ts) (traceFrom z limit index s (encodedAll before))
+      (traceFrom z limit index s (encodedAll before ++ (encodedAll rs ++ tail))) (traceFrom z limit index s (encodedAll before ++ (encodedAll ts ++ tail)))
 
   led : (limit index : ℕ) (s : State) (before : List Rec) → after z s (callsOf before) .settings ≡ x → Led limit index s before
   led zero index s [] h = (_, _, refl, refl, from-here z rs ts tail x q ds e zero index s h)
@@ -192,8 +192,8 @@ module _ (z : Sizes) (rs ts : List Rec) (tail : List ℕ) (x : Settings) (q : Qu
   led zero index s (r ∷ before) h = ([], [], sym (append-nil (fullLine index)), sym (append-nil (fullLine index)), ends)
   led (suc limit) index s (r ∷ before) h =
       follow-line x (callsOf rs) (callsOf ts) (line index (r .kind) (answered z s (meant r) .1)) _ _ _ _ _ _
-      (by-record z limit index s r (written before)) (by-records z limit index s r before (written rs ++ tail))
-      (by-records z limit index s r before (written ts ++ tail))
+      (by-record z limit index s r (encodedAll before)) (by-records z limit index s r before (encodedAll rs ++ tail))
+      (by-records z limit index s r before (encodedAll ts ++ tail))
       (led limit (suc index) (answered z s (meant r) .0) before (sym (ap (λ (t : State). t .settings) (answered-after z s (meant r) (callsOf before))) ∙ h))
 
 -- DEMAND 3 of traces

@@ -7,7 +7,7 @@ use Rattle.rules.specs.Trace.{trace}
 use Rattle.secrecy.specs.Statement.{Each, Quiet}
 use Rattle.trace.specs.stream.Contract.{beginning}
 use Rattle.trace.specs.stream.Pieces.{joined, Writes}
-use Rattle.discreet.specs.alike.Statement.{Rec, written, Ends, callsOf, RecordsDiffer, PrintedAlike, settingsAfter}
+use Rattle.discreet.specs.alike.Statement.{Rec, encodedAll, Ends, callsOf, RecordsDiffer, PrintedAlike, settingsAfter}
 
 -- what one caller writes, with a port of document 01's sizes and any slices
 pub record Caller (input t : List ℕ) : Type 0 where
@@ -25,7 +25,7 @@ abbrev pub Demand3Program : Type 0
 Demand3Program =
     (before rs ts : List Rec) (tail t u : List ℕ)
     → Quiet (settingsAfter before) → Each (RecordsDiffer (settingsAfter before)) rs ts → Ends tail
-    → Caller (written before ++ (written rs ++ tail)) t → Caller (written before ++ (written ts ++ tail)) u
+    → Caller (encodedAll before ++ (encodedAll rs ++ tail)) t → Caller (encodedAll before ++ (encodedAll ts ++ tail)) u
     → (l : List ℕ) × (m : List ℕ)
-    × (t ≡ trace (written before) ++ l) × (u ≡ trace (written before) ++ m)
+    × (t ≡ trace (encodedAll before) ++ l) × (u ≡ trace (encodedAll before) ++ m)
     × PrintedAlike (settingsAfter before) (callsOf rs) (callsOf ts) l m

@@ -25,9 +25,9 @@ abbrev pub encoded : Rec → List ℕ
 encoded r = (length (r .body) % 256) ∷ (length (r .body) / 256) ∷ (r .kind % 256) ∷ (r .kind / 256) ∷ r .body
 
 -- the records, one after the other
-abbrev pub written : List Rec → List ℕ
-written [] = []
-written (r ∷ rs) = encoded r ++ written rs
+abbrev pub encodedAll : List Rec → List ℕ
+encodedAll [] = []
+encodedAll (r ∷ rs) = encoded r ++ encodedAll rs
 
 -- what may come after the last whole record: nothing, or a record that is cut
 pub data Ends (tail : List ℕ) : Type 0 where
@@ -80,7 +80,7 @@ FromState =
     (z : Sizes) (limit index : ℕ) (s : State) (rs ts : List Rec) (tail : List ℕ)
     → Quiet (s .settings) → Each (RecordsDiffer (s .settings)) rs ts → Ends tail
     → PrintedAlike (s .settings) (callsOf rs) (callsOf ts)
-    (traceFrom z limit index s (written rs ++ tail)) (traceFrom z limit index s (written ts ++ tail))
+    (traceFrom z limit index s (encodedAll rs ++ tail)) (traceFrom z limit index s (encodedAll ts ++ tail))
 
 -- the settings after these records
 abbrev pub settingsAfter : List Rec → Settings
@@ -93,8 +93,8 @@ Demand3Traces =
     (before rs ts : List Rec) (tail : List ℕ)
     → Quiet (settingsAfter before) → Each (RecordsDiffer (settingsAfter before)) rs ts → Ends tail
     → (l : List ℕ) × (m : List ℕ)
-    × (trace (written before ++ (written rs ++ tail)) ≡ trace (written before) ++ l)
-    × (trace (written before ++ (written ts ++ tail)) ≡ trace (written before) ++ m)
+    × (trace (encodedAll before ++ (encodedAll rs ++ tail)) ≡ trace (encodedAll before) ++ l)
+    × (trace (encodedAll before ++ (encodedAll ts ++ tail)) ≡ trace (encodedAll before) ++ m)
     × PrintedAlike (settingsAfter before) (callsOf rs) (callsOf ts) l m
 
 ---- That these are all traces
@@ -105,4 +105,4 @@ Bytes (b ∷ l) = (b < 256) × Bytes l
 
 -- whatever bytes a trace has, they are records and what may come after the last
 abbrev pub EveryTrace : Type 0
-EveryTrace = (l : List ℕ) → Bytes l → (rs : List Rec) × (tail : List ℕ) × Ends tail × (l ≡ written rs ++ tail)
+EveryTrace = (l : List ℕ) → Bytes l → (rs : List Rec) × (tail : List ℕ) × Ends tail × (l ≡ encodedAll rs ++ tail)

@@ -15,12 +15,12 @@ use Rattle.rules.specs.Output.{columnsAfter, processed, queued}
 use Rattle.rules.specs.Editing.{units, reprint}
 use Rattle.rules.specs.Echo.{visible, lineEcho, editShows, editEcho}
 use Rattle.rules.proofs.OutputLaws.{append-nil, processed-append, processed-part}
-use Rattle.output.specs.Contract.{inRange, get, Becomes, Begins}
+use Rattle.output.specs.Contract.{inRange, get, OutputBecomes, Begins, echoed, Echoes}
 use Rattle.output.specs.columns.Contract.{Measures, Extends}
 use Rattle.output.specs.declared.columns.Measure.{Measure}
 use Rattle.output.specs.declared.Output.{Output}
 use Rattle.output.proofs.Laws.{becomes, get-after, get-length, column-after, same-size, range-len, twice, whole-fits, full-of}
-use Rattle.echo.specs.Contract.{echoed, Echoes, ExtendsBy}
+use Rattle.echo.specs.Contract.{ExtendsBy}
 use Rattle.echo.proofs.Laws.{shows-as, shows-none}
 use Rattle.input.specs.Contract.{get as input, Within}
 use Rattle.input.specs.declared.Input.{Input}
@@ -51,7 +51,7 @@ got-column x o l e = refl
 
 -- the run a is queued
 abbrev Runs : Settings → Output → List ℕ → List ℕ → Output → List ℕ → Type 0
-Runs x o l a r l′ = Becomes o l (queued x (get o l) (processed x (o .column) a)) r l′
+Runs x o l a r l′ = OutputBecomes o l (queued x (get o l) (processed x (o .column) a)) r l′
 
 runs-as : (x : Settings) (o r : Output) (l l′ a b : List ℕ) → a ≡ b → Runs x o l a r l′ → Runs x o l b r l′
 runs-as x o r l l′ a b e s = subst (λ (y : List ℕ). Runs x o l y r l′) e s

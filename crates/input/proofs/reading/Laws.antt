@@ -19,7 +19,7 @@ use Rattle.rules.specs.Reads.{Part, bytesOf, firstLine, firstBytes}
 use Rattle.input.specs.Contract.{places, all, get, put, Within, Sound}
 use Rattle.input.specs.declared.Input.{Input}
 use Rattle.input.proofs.Laws.{stored-all, used-of, finished-length, current-length, get-of, After, numbers-are, held-both}
-use Rattle.input.specs.reading.Contract.{Splits, TellsLine, leaves, gone, Reads, ReadsLine, ReadsBytes, Gives, Given}
+use Rattle.input.specs.reading.Contract.{Splits, TellsLine, leaves, gone, ReadsPart, ReadsLine, ReadsBytes, Gives, Given}
 use Rattle.input.specs.declared.reading.Taken.{Taken}
 use Rattle.input.specs.declared.reading.Line.{Line}
 use Rattle.input.proofs.reading.FirstLine.{line-splits}
@@ -117,7 +117,7 @@ module _ (i : Input) (bs ms : List ℕ) (h : Sound i bs ms) where
     left-numbers =
         numbers-are _ _ _ _ _ _ _ _ (ap (λ (x : ℕ). (i .queue .head + x) % length bs) (sym gone-is)) (sym used-left) (sym left-count) (sym literal-same)
 
-    given-reads : (d : List ℕ) (r : Taken) (d′ : List ℕ) → Given i bs d k t r d′ → Reads i bs ms d p r d′
+    given-reads : (d : List ℕ) (r : Taken) (d′ : List ℕ) → Given i bs d k t r d′ → ReadsPart i bs ms d p r d′
     given-reads d r d′ g =
         record {
           count = g .count ∙ sym given-count;
@@ -129,7 +129,7 @@ module _ (i : Input) (bs ms : List ℕ) (h : Sound i bs ms) where
         }
 
     -- what is held after the read: what the part leaves
-    reads-after : (d : List ℕ) (r : Taken) (d′ : List ℕ) → Reads i bs ms d p r d′
+    reads-after : (d : List ℕ) (r : Taken) (d′ : List ℕ) → ReadsPart i bs ms d p r d′
         → After (leaves (get i bs ms) (p .left)) bs ms (r .input) bs ms
     unfolding all
     reads-after d r d′ g =
@@ -169,7 +169,7 @@ module _ (i : Input) (bs ms : List ℕ) (h : Sound i bs ms) where
       let s = line-splits (length d) (get i bs ms .finished) in
       reads-after (firstLine (length d) (get i bs ms .finished)) (s .0) (s .1) (s .2) d r d′ g
 
-  pub bytes-after : (d : List ℕ) (r : Taken) (d′ : List ℕ) → Reads i bs ms d (firstBytes (length d) (get i bs ms .finished)) r d′
+  pub bytes-after : (d : List ℕ) (r : Taken) (d′ : List ℕ) → ReadsPart i bs ms d (firstBytes (length d) (get i bs ms .finished)) r d′
       → After (leaves (get i bs ms) (firstBytes (length d) (get i bs ms .finished) .left)) bs ms (r .input) bs ms
   bytes-after d r d′ g =
       let ps : List Place = get i bs ms .finished in
@@ -193,7 +193,7 @@ module _ (i : Input) (bs ms : List ℕ) (h : Sound i bs ms) where
         given-reads (firstLine (length d) (get i bs ms .finished)) (l .count) (l .taken) (tells bs (h .same) .0) d r d′ g
 
     bytes-read : (k : ℕ) → k ≡ min (length d) (i .ready) → Given i bs d k k r d′
-        → Reads i bs ms d (firstBytes (length d) (get i bs ms .finished)) r d′
+        → ReadsPart i bs ms d (firstBytes (length d) (get i bs ms .finished)) r d′
     bytes-read k ek g =
         let ps : List Place = get i bs ms .finished in
         let e : k ≡ min (length d) (length ps) = ek ∙ ap (min (length d)) (sym (finished-length i bs ms (h .same) (h .within))) in
@@ -206,7 +206,7 @@ bytes-reads i bs d k r d′ h ek g ms e = bytes-read i bs ms (record { same = e;
 
 -- no second result fits
 pub one-read : {i : Input} {bs ms d : List ℕ} {p : Part} {r s : Taken} {d′ e′ : List ℕ}
-    → Reads i bs ms d p r d′ → Reads i bs ms d p s e′ → (r ≡ s) × (d′ ≡ e′)
+    → ReadsPart i bs ms d p r d′ → ReadsPart i bs ms d p s e′ → (r ≡ s) × (d′ ≡ e′)
 one-read {r = r} {s = s} h k =
     (taken-is (r .input) (s .input) (r .count) (s .count) (h .input ∙ sym (k .input)) (h .count ∙ sym (k .count)), h .buffer ∙ sym (k .buffer))
   where

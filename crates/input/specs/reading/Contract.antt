@@ -27,7 +27,7 @@ TellsLine i ms n r =
 ---- What a read takes from the stored input, over the numbers and the two slices
 -- On the right of each equation stand values at entry only.
 
----- Reads
+---- ReadsPart
 
 -- the rules' input, of whose finished places some are left
 abbrev pub leaves : Ruled → List Place → Ruled
@@ -39,7 +39,7 @@ gone g w = used g - used w
 
 -- After a read of the part p the input is what p leaves, its oldest place behind the places that are gone; the bytes of p
 -- stand first in the buffer, and behind them it is as it was.
-pub record Reads (i : Input) (bs ms d : List ℕ) (p : Part) (r : Taken) (d′ : List ℕ) : Type 0 where
+pub record ReadsPart (i : Input) (bs ms d : List ℕ) (p : Part) (r : Taken) (d′ : List ℕ) : Type 0 where
   pub count : r .count ≡ length (p .bytes)
   pub input :
       r .input
@@ -47,12 +47,12 @@ pub record Reads (i : Input) (bs ms d : List ℕ) (p : Part) (r : Taken) (d′ :
   pub buffer : d′ ≡ p .bytes ++ drop (length (p .bytes)) d
 
 abbrev pub ReadsLine : Input → List ℕ → List ℕ → List ℕ → Taken → List ℕ → Type 0
-ReadsLine i bs ms d r d′ = Reads i bs ms d (firstLine (length d) (get i bs ms .finished)) r d′
+ReadsLine i bs ms d r d′ = ReadsPart i bs ms d (firstLine (length d) (get i bs ms .finished)) r d′
 
 -- Marks play no part in it.
 abbrev pub ReadsBytes : Input → List ℕ → List ℕ → Taken → List ℕ → Type 0
 ReadsBytes i bs d r d′ =
-    (ms : List ℕ) → length bs ≡ length ms → Reads i bs ms d (firstBytes (length d) (get i bs ms .finished)) r d′
+    (ms : List ℕ) → length bs ≡ length ms → ReadsPart i bs ms d (firstBytes (length d) (get i bs ms .finished)) r d′
 
 -- `count` bytes can be given and `taken` places be dropped
 pub record Gives (i : Input) (bs d : List ℕ) (count taken : ℕ) : Type 0 where

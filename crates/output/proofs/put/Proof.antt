@@ -3,7 +3,7 @@ use Rattle.output.proofs.Run.{turns}
 use Rattle.output.proofs.Laws.{range-none, get-length, len-now, same-size, twice}
 use Rattle.output.specs.declared.expansion.Expansion.{Expansion}
 use Rattle.output.specs.Contract.{get}
-use Rattle.output.specs.expansion.Contract.{bytesOf}
+use Rattle.output.specs.expansion.Contract.{expandedBytes}
 use Rattle.rules.specs.Output.{queued}
 use mathlib.Core.List.{[], _∷_}
 use lib.ListN.{length, length-replicate}
@@ -27,7 +27,7 @@ put-byte-requires : tie.Need-put-byte-requires
 put-byte-requires c κs =
     let at-e = c .before .before .e in
     let start = c .before .before .before .before .before in
-    let w : length (bytesOf (start .args .e)) ≡ 1 = ap (λ (k : Expansion). length (bytesOf k)) (at-e .given .1) in
+    let w : length (expandedBytes (start .args .e)) ≡ 1 = ap (λ (k : Expansion). length (expandedBytes k)) (at-e .given .1) in
     omega (arith, start .pre)
 
 enum-told-2 : tie.Need-enum-told-2
@@ -36,7 +36,7 @@ enum-told-2 c = search needs
 put-byte-requires-2 : tie.Need-put-byte-requires-2
 put-byte-requires-2 c κs =
     let start = c .before .before .before .before in
-    let w : length (bytesOf (start .args .e)) ≡ 2 = ap (λ (k : Expansion). length (bytesOf k)) (c .before .enum-told2 .given .1) in
+    let w : length (expandedBytes (start .args .e)) ≡ 2 = ap (λ (k : Expansion). length (expandedBytes k)) (c .before .enum-told2 .given .1) in
     omega (arith, start .pre)
 
 put-byte-requires-3 : tie.Need-put-byte-requires-3
@@ -46,7 +46,7 @@ put-byte-requires-3 c κs =
     let start = c .before .before .before .before .before .before .before .before in
     let x = start .args .x in
     let l = start .args .out .now in
-    let w : length (bytesOf (start .args .e)) ≡ 2 = ap (λ (k : Expansion). length (bytesOf k)) (at-enum-told2 .given .1) in
+    let w : length (expandedBytes (start .args .e)) ≡ 2 = ap (λ (k : Expansion). length (expandedBytes k)) (at-enum-told2 .given .1) in
     let n : one .result .queue .len ≡ min (start .args .o .queue .len) (length l) + 1 =
     len-now x (start .args .o) (one .result) l (one .last .1 .1 .0) (13 ∷ []) (one .ensures) in
     let z : length (one .last .1 .1 .0) ≡ length l =
@@ -60,7 +60,7 @@ put-spaces-requires : tie.Need-put-spaces-requires
 put-spaces-requires c κs =
     let at-e2 = c .before .before .e2 in
     let start = c .before .before .before .before .before in
-    let w : length (bytesOf (start .args .e)) ≡ at-e2 .given .0 .0 = ap (λ (k : Expansion). length (bytesOf k)) (at-e2 .given .1)
+    let w : length (expandedBytes (start .args .e)) ≡ at-e2 .given .0 .0 = ap (λ (k : Expansion). length (expandedBytes k)) (at-e2 .given .1)
     ∙ length-replicate (at-e2 .given .0 .0) 32 in
     omega (arith, start .pre)
 
@@ -91,7 +91,7 @@ returns-3 c =
     let start = c .before .before .before .before .before .before .before .before .before .before .before in
     let x = start .args .x in
     let l = start .args .out .now in
-    let w : length (bytesOf (start .args .e)) ≡ 2 = ap (λ (k : Expansion). length (bytesOf k)) (at-enum-told2 .given .1) in
+    let w : length (expandedBytes (start .args .e)) ≡ 2 = ap (λ (k : Expansion). length (expandedBytes k)) (at-enum-told2 .given .1) in
     turns x (start .args .o) (two .result) l (two .last .1 .1 .0) (at-enum-told2 .given .1)
     (twice x (start .args .o) (one .result) (two .result) l (one .last .1 .1 .0) (two .last .1 .1 .0) (13 ∷ []) (10 ∷ [])
     (rw get-length (omega (arith, start .pre))) (one .ensures) (two .ensures))

@@ -4,7 +4,7 @@ use borrow.Author.Needs.{needs}
 use native.Mathlib.Nat.{le-antisymm}
 use Rattle.output.proofs.columns.Columns.{replicate-snoc}
 use Rattle.output.proofs.Laws.{range-len, range-get, start-run, same-size, len-now, twice, via-range}
-use Rattle.output.specs.Contract.{get, Becomes}
+use Rattle.output.specs.Contract.{get, OutputBecomes}
 use Rattle.rules.specs.Output.{queued}
 use mathlib.Core.List.{[], _∷_}
 use lib.ListN.{length, replicate, length-replicate}
@@ -15,7 +15,7 @@ use Rattle.output.proofs.put_spaces.Statement.{statement}
 use Rattle.output.proofs.put_spaces.Tie as tie
 
 abbrev Inv-loop : tie.InvT-loop
-Inv-loop x out₀ n o₀ i₀ out o i = (i ≤ n) × Becomes o₀ out₀ (queued x (get o₀ out₀) (replicate i 32)) o out
+Inv-loop x out₀ n o₀ i₀ out o i = (i ≤ n) × OutputBecomes o₀ out₀ (queued x (get o₀ out₀) (replicate i 32)) o out
 
 abbrev μ-loop : tie.MeasureT-loop
 μ-loop x out₀ n o₀ i₀ out o i = n - i

@@ -2,7 +2,7 @@
 use Rattle.output.proofs.Laws.{get-length, len-now, same-size, twice}
 use Rattle.rules.specs.Output.{queued}
 use lib.ListN.{length}
-use Rattle.output.specs.Contract.{get, Becomes}
+use Rattle.output.specs.Contract.{get, OutputBecomes}
 use mathlib.Core.List.{[], _∷_}
 use native.Mathlib.Omega.{arith}
 use Prim.Native.Nat.{_+_, min}
@@ -62,7 +62,7 @@ returns c =
     len-now x (one .result) (two .result) (one .last .1 .1 .0) (two .last .1 .1 .0) (32 ∷ []) (two .ensures) in
     let z₂ : length (two .last .1 .1 .0) ≡ length (one .last .1 .1 .0) = same-size (one .result) (two .result) (one .last .1 .1 .0) (two .last .1 .1 .0)
     (queued x (get (one .result) (one .last .1 .1 .0)) (32 ∷ [])) (two .ensures) in
-    let ab : Becomes (start .args .o) l (queued x (get (start .args .o) l) (8 ∷ 32 ∷ [])) (two .result) (two .last .1 .1 .0) =
+    let ab : OutputBecomes (start .args .o) l (queued x (get (start .args .o) l) (8 ∷ 32 ∷ [])) (two .result) (two .last .1 .1 .0) =
     twice x (start .args .o) (one .result) (two .result) l (one .last .1 .1 .0) (two .last .1 .1 .0) (8 ∷ []) (32 ∷ [])
     (rw get-length (omega (arith, start .pre))) (one .ensures) (two .ensures) in
     twice x (start .args .o) (two .result) (three .result) l (two .last .1 .1 .0) (three .last .1 .1 .0) (8 ∷ 32 ∷ []) (8 ∷ [])

@@ -6,7 +6,7 @@ use Rattle.output.proofs.Run.{rubout-plain, rubout-snoc, rubout-length}
 use Rattle.output.proofs.Laws.{range-len, range-get, start-run, same-size, len-now, twice, fits-of, full-of}
 use Rattle.rules.specs.Output.{queued}
 use lib.ListN.{length}
-use Rattle.output.specs.Contract.{get, Becomes}
+use Rattle.output.specs.Contract.{get, OutputBecomes}
 use mathlib.Core.List.{[], _∷_}
 use native.Mathlib.Omega.{arith}
 use Prim.Native.Nat.{_+_, _-_, _*_, _≤_, min}
@@ -15,7 +15,7 @@ use Rattle.output.proofs.rub_out.Statement.{statement}
 use Rattle.output.proofs.rub_out.Tie as tie
 
 abbrev Inv-loop : tie.InvT-loop
-Inv-loop x out₀ n size o₀ i₀ out o i = (i ≤ n) × (o₀ .queue .len + 3 * n ≤ length out₀) × Becomes o₀ out₀ (queued x (get o₀ out₀) (rubout i)) o out
+Inv-loop x out₀ n size o₀ i₀ out o i = (i ≤ n) × (o₀ .queue .len + 3 * n ≤ length out₀) × OutputBecomes o₀ out₀ (queued x (get o₀ out₀) (rubout i)) o out
 
 abbrev μ-loop : tie.MeasureT-loop
 μ-loop x out₀ n size o₀ i₀ out o i = n - i
@@ -117,7 +117,7 @@ returns-2 c =
     let m : length (rubout (loop .i)) ≡ 3 * loop .i = rubout-length (loop .i) in
     let z : length (loop .out) ≡ length l = same-size (p .result) (loop .o) l (loop .out) (queued x (get (p .result) l) (rubout (loop .i))) (loop .inv .2) in
     let end : loop .i ≡ start .args .n = le-antisymm (loop .inv .0) (c .loop-test .left) in
-    let b : Becomes (p .result) l (queued x (get (p .result) l) (rubout (start .args .n))) (loop .o) (loop .out) = rw end at (loop .inv .2) in
+    let b : OutputBecomes (p .result) l (queued x (get (p .result) l) (rubout (start .args .n))) (loop .o) (loop .out) = rw end at (loop .inv .2) in
     rw (rubout-plain x (start .args .was .column) (start .args .n))
     (fits-of x (start .args .was) (p .result) l (p .ensures) (loop .o) (loop .out) (rubout (start .args .n))
     (omega (arith, loop .inv .1, rubout-length (start .args .n))) b)

@@ -5,7 +5,7 @@ use Rattle.output.proofs.Laws.{same-size}
 use Rattle.rules.specs.Output.{written}
 use lib.ListN.{length, take}
 use Rattle.output.specs.Contract.{get, put}
-use Rattle.output.specs.expansion.Contract.{bytesOf}
+use Rattle.output.specs.expansion.Contract.{expandedBytes}
 use native.Mathlib.Omega.{arith}
 use Prim.Native.Nat.{_-_}
 use mathlib.Core.Path.{_≡_}
@@ -60,7 +60,7 @@ returns c =
     let l = start .args .out .now in
     let src = start .args .src .now in
     wrote x (start .args .was) (p .result) l src (loop .i) (loop .o) (loop .out) (p .ensures) (loop .inv)
-    (full x (p .result) l src (loop .i) (loop .o) (loop .out) (bytesOf (e .result)) (loop .inv) (at-loop-test .taken) (e .ensures)
+    (full x (p .result) l src (loop .i) (loop .o) (loop .out) (expandedBytes (e .result)) (loop .inv) (at-loop-test .taken) (e .ensures)
     (omega (arith, c .if1 .taken, at-width .ensures, loop .inv .fits)))
 
 put-requires : tie.Need-put-requires Inv-loop μ-loop
@@ -96,7 +96,7 @@ loop-again c =
     let x = start .args .x in
     let l = start .args .out .now in
     let src = start .args .src .now in
-    next x (p .result) l src (loop .i) (loop .o) (loop .out) (bytesOf (e .result)) (loop .inv) (at-loop-test .taken) (e .ensures) (one .result)
+    next x (p .result) l src (loop .i) (loop .o) (loop .out) (expandedBytes (e .result)) (loop .inv) (at-loop-test .taken) (e .ensures) (one .result)
     (one .last .1 .1 .0)
     (omega (arith, at-if1 .left, at-width .ensures, loop .inv .fits)) (one .ensures)
 

@@ -5,8 +5,8 @@ use lib.ListN.{replicate}
 use Rattle.output.specs.declared.expansion.Expansion.{Expansion}
 use Rattle.output.specs.declared.expansion.Expansion.the-variants.{Nothing, Byte, Pair, Spaces}
 
-abbrev pub bytesOf : Expansion → List ℕ
-bytesOf Nothing = []
-bytesOf (Byte b) = b ∷ []
-bytesOf Pair = 13 ∷ 10 ∷ []
-bytesOf (Spaces n) = replicate n 32
+abbrev pub expandedBytes : Expansion → List ℕ
+expandedBytes Nothing = []
+expandedBytes (Byte b) = b ∷ []
+expandedBytes Pair = 13 ∷ 10 ∷ []
+expandedBytes (Spaces n) = replicate n 32

@@ -15,7 +15,7 @@ use Rattle.input.specs.Contract as input
 use Rattle.input.proofs.Laws.{current-length}
 use Rattle.output.specs.declared.Output.{Output}
 use Rattle.output.proofs.Laws.{get-room}
-use Rattle.echo.specs.Contract.{Echoes}
+use Rattle.output.specs.Contract.{Echoes}
 use Rattle.editing.specs.declared.Run.{Run}
 use Rattle.editing.proofs.Laws.{places-units, edited-becomes}
 use Rattle.port.specs.State.{withOutput}

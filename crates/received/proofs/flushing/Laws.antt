@@ -19,7 +19,7 @@ use Rattle.input.proofs.Laws as stored
 use Rattle.output.specs.Contract as output
 use Rattle.output.specs.declared.Output.{Output}
 use Rattle.output.proofs.Laws as queued
-use Rattle.echo.specs.Contract.{Echoes}
+use Rattle.output.specs.Contract.{Echoes}
 use Rattle.port.specs.State.{withOutput}
 use Rattle.port.specs.declared.Port.{Port}
 use Rattle.port.specs.Layers.{state, sizesOf, Ranged, Becomes, Turns, assembled, Ready}
@@ -35,7 +35,7 @@ module _ (p : Port) (n : ℕ) (os : List ℕ) (g : Ranged p n (length os)) where
       → w ≡ flushing.timerFlushed (flushing.betweenBytes (p .settings)) (p .waiting) → r ≡ assembled p i (p .output) w
       → Turns p n os (λ z s. flushing.flushInput s) r os
   flushed-of i w r ei ew er bs ms eb em =
-      let f : input.Becomes (p .input) bs ms input.emptied (input.put input.emptied (p .input .queue .head % length bs)) bs ms =
+      let f : input.InputBecomes (p .input) bs ms input.emptied (input.put input.emptied (p .input .queue .head % length bs)) bs ms =
       stored.flush-becomes (p .input) bs ms (eb ∙ sym em) in
       as-assembled p (assembled p i (p .output) w) r bs ms os bs ms os (flushing.flushInput (state p bs ms os)) er
       (record {
@@ -49,7 +49,7 @@ module _ (p : Port) (n : ℕ) (os : List ℕ) (g : Ranged p n (length os)) where
       })
 
   pub bell-of : (o : Output) (r : Port) (os′ : List ℕ) → p .settings .imaxbel ≡ true
-      → output.Becomes (p .output) os (rule.queuedWhole (length os) (p .settings) (output.get (p .output) os) (7 ∷ [])) o os′
+      → output.OutputBecomes (p .output) os (rule.queuedWhole (length os) (p .settings) (output.get (p .output) os) (7 ∷ [])) o os′
       → r ≡ assembled p (p .input) o (p .waiting) → Turns p n os fit.overflow r os′
   bell-of o r os′ t b er bs ms eb em =
       let z : Sizes = sizesOf p n (length os) in
@@ -75,9 +75,9 @@ module _ (p : Port) (n : ℕ) (os : List ℕ) (g : Ranged p n (length os)) where
 ---- A port that then shows something
 
 -- the output of w is in the slice, and then the bytes e are echoed behind it
-shown-behind : (x : Settings) (a b o : Output) (os os′ e : List ℕ) (w : RuledOutput) → length (w .queue) ≤ length os → output.Becomes a os w b os
+shown-behind : (x : Settings) (a b o : Output) (os os′ e : List ℕ) (w : RuledOutput) → length (w .queue) ≤ length os → output.OutputBecomes a os w b os
     → Echoes x b os e o os′
-    → output.Becomes a os (rule.queuedWhole (length os) x w (rule.processed x (w .column) e)) o os′
+    → output.OutputBecomes a os (rule.queuedWhole (length os) x w (rule.processed x (w .column) e)) o os′
 shown-behind x a b o os os′ e w le h k =
     let n : ℕ = length os in
     let v : RuledOutput = rule.queuedWhole n x (output.get b os) (rule.processed x (b .column) e) in
@@ -108,12 +108,12 @@ then-shown p q r bs ms os os′ e w o n b le k er =
 ---- 'Literal next', and stopped output. Assumes nothing
 
 module _ (p : Port) (bs ms os : List ℕ) (g : Ready p bs ms os) where
-  literal-becomes : (l : Bool) → input.Becomes (p .input) bs ms (withLiteralNext (input.get (p .input) bs ms) l) (literalTo l (p .input)) bs ms
+  literal-becomes : (l : Bool) → input.InputBecomes (p .input) bs ms (withLiteralNext (input.get (p .input) bs ms) l) (literalTo l (p .input)) bs ms
   literal-becomes l =
       let b = input-stays (p .input) bs ms (g .same) (g .ranged .input) in
       record { input = ap (literalTo l) (b .input); bytes = b .bytes; marks = b .marks }
 
-  stop-becomes : (t : Bool) → output.Becomes (p .output) os (withStopped (output.get (p .output) os) t) (stopTo t (p .output)) os
+  stop-becomes : (t : Bool) → output.OutputBecomes (p .output) os (withStopped (output.get (p .output) os) t) (stopTo t (p .output)) os
   stop-becomes t =
       let b = output-stays (p .output) os (g .ranged .output) in
       record { output = ap (stopTo t) (b .output); slice = b .slice }

@@ -18,7 +18,7 @@ use Rattle.input.specs.declared.Input.{Input}
 use Rattle.input.proofs.Laws as stored
 use Rattle.output.specs.Contract as output
 use Rattle.output.specs.declared.Output.{Output}
-use Rattle.echo.specs.Contract.{Echoes}
+use Rattle.output.specs.Contract.{Echoes}
 use Rattle.echo.proofs.Laws.{shows-none}
 use Rattle.port.specs.declared.Port.{Port}
 use Rattle.port.specs.Layers.{state, sizesOf, Ready, Becomes, Turns, assembled}
@@ -68,7 +68,7 @@ module _ (p : Port) (bs ms os : List ℕ) (g : Ready p bs ms os) where
   -- stored, with the waiting read's timer
   pub stored-unit : (k : List Place) (e : List ℕ) (t : Bool) (i : Input) (o : Output) (r : Port) (bs′ ms′ os′ : List ℕ)
       → input.TellsUnit (p .input) (length bs) (p .line) (p .settings .icanon) (length k) t → t ≡ true
-      → input.Becomes (p .input) bs ms (fit.keptIn (p .settings .icanon) (input.get (p .input) bs ms) k) i bs′ ms′
+      → input.InputBecomes (p .input) bs ms (fit.keptIn (p .settings .icanon) (input.get (p .input) bs ms) k) i bs′ ms′
       → Echoes (p .settings) (p .output) os e o os′
       → r ≡ assembled p i o timed
       → Becomes p bs ms os (fit.storesUnit (sizesOf p (length bs) (length os)) (state p bs ms os) k e) r bs′ ms′ os′
@@ -93,7 +93,7 @@ module _ (p : Port) (bs ms os : List ℕ) (g : Ready p bs ms os) where
   -- a delimiter or a mark
   pub ended-line : (q : Place) (e : List ℕ) (t : Bool) (i : Input) (o : Output) (r : Port) (bs′ ms′ os′ : List ℕ)
       → input.TellsEnd (p .input) (length bs) t → t ≡ true
-      → input.Becomes (p .input) bs ms (input.endedIn (input.get (p .input) bs ms) q) i bs′ ms′
+      → input.InputBecomes (p .input) bs ms (input.endedIn (input.get (p .input) bs ms) q) i bs′ ms′
       → Echoes (p .settings) (p .output) os e o os′
       → r ≡ assembled p i o timed
       → Becomes p bs ms os (fit.storesEnd (sizesOf p (length bs) (length os)) (state p bs ms os) q e) r bs′ ms′ os′

@@ -31,7 +31,7 @@ module _ (kind : ℕ) where
   settings-asks (a ∷ b ∷ c ∷ []) = tt
   settings-asks (a ∷ b ∷ c ∷ d ∷ values) = by (eqb (length values) 15) refl
     where
-      by : (t : Bool) → eqb (length values) 15 ≡ t → Asked kind (a ∷ b ∷ c ∷ d ∷ values) (trace.settingsOn t (trace.four a b c d) values)
+      by : (t : Bool) → eqb (length values) 15 ≡ t → Asked kind (a ∷ b ∷ c ∷ d ∷ values) (trace.settingsRecordOn t (trace.four a b c d) values)
       by true e = record { short = omega (arith, eqb-true (length values) 15 e); few = omega arith; read = tt }
       by false e = tt
 
@@ -50,7 +50,7 @@ module _ (kind : ℕ) where
   read-asks (a ∷ b ∷ []) k = tt
   read-asks (a ∷ b ∷ c ∷ []) k = by (leb (trace.two a b) 1024 && trace.isFlag c) refl
     where
-      by : (t : Bool) → (leb (trace.two a b) 1024 && trace.isFlag c) ≡ t → Asked kind (a ∷ b ∷ c ∷ []) (trace.readOn t (trace.two a b) c)
+      by : (t : Bool) → (leb (trace.two a b) 1024 && trace.isFlag c) ≡ t → Asked kind (a ∷ b ∷ c ∷ []) (trace.readRecordOn t (trace.two a b) c)
       by true e =
           record {
             short = omega arith;
@@ -74,7 +74,7 @@ module _ (kind : ℕ) where
   transmit-asks (a ∷ []) = tt
   transmit-asks (a ∷ b ∷ []) = by (leb (trace.two a b) 2048) refl
     where
-      by : (t : Bool) → leb (trace.two a b) 2048 ≡ t → Asked kind (a ∷ b ∷ []) (trace.transmitOn t (trace.two a b))
+      by : (t : Bool) → leb (trace.two a b) 2048 ≡ t → Asked kind (a ∷ b ∷ []) (trace.transmitRecordOn t (trace.two a b))
       by true e =
           record { short = omega arith; few = omega (arith, length-replicate {A = ℕ} (trace.two a b) 0, leb-true (trace.two a b) 2048 e); read = tt }
       by false e = tt

@@ -14,7 +14,7 @@ use Rattle.port.specs.State.{sizes, get}
 use Rattle.trace.specs.Contract.{answeredOf, Records}
 use Rattle.trace.specs.declared.Recorded.{Recorded}
 use Rattle.trace.specs.gathering.Contract.{sizeOf, kindOf, endOf, bodyOf, come}
-use Rattle.trace.specs.stream.Contract.{standing, Takes, Feeds}
+use Rattle.trace.specs.stream.Contract.{standing, TakesIn, Feeds}
 use Rattle.trace.specs.declared.stream.Stream.{Stream}
 use Rattle.trace.specs.declared.stream.Taken.{Taken}
 use Rattle.trace.proofs.stream.Laws.{more}
@@ -30,7 +30,7 @@ line-some i k r f =
     no-end : (t : List ℕ) → t ++ text "\n" ≡ [] → ⊥
     no-end t g = omega (arith, ap length g, length-append t (text "\n"))
 
-module _ (g : Stream) (bs ms os kept piece l : List ℕ) (t : Taken) (kept′ l₁ : List ℕ) (h : Takes g kept piece l t kept′ l₁) where
+module _ (g : Stream) (bs ms os kept piece l : List ℕ) (t : Taken) (kept′ l₁ : List ℕ) (h : TakesIn g kept piece l t kept′ l₁) where
   pub feeds-passed : t .complete ≡ false
       → Feeds g bs ms os kept piece l (record { stream = standing g t; used = t .used; length = t .length }) bs ms os kept′ l₁
   feeds-passed going =

@@ -13,14 +13,14 @@ use Rattle.records.specs.lines.Puts.{Prints}
 use Rattle.trace.specs.gathering.Contract.{sizeOf, isOpen, come, pending, Gathers}
 use Rattle.trace.proofs.gathering.Laws.{begun-pending}
 use Rattle.trace.proofs.gathering.Rules.{trace-full}
-use Rattle.trace.specs.stream.Contract.{future, Takes}
+use Rattle.trace.specs.stream.Contract.{future, TakesIn}
 use Rattle.trace.specs.declared.stream.Stream.{Stream}
 use Rattle.trace.proofs.stream.Laws.{prints-none, going, over}
 use Rattle.trace.proofs.stream.Lengths.{full-at-most}
 
 module _ (g : Stream) (kept piece l : List ℕ) where
   pub takes-done : g .done ≡ true
-      → Takes g kept piece l (record { used = length piece; have = g .have; done = true; length = 0; complete = false }) kept l
+      → TakesIn g kept piece l (record { used = length piece; have = g .have; done = true; length = 0; complete = false }) kept l
   takes-done d =
       record {
         used = omega arith;
@@ -36,7 +36,7 @@ module _ (g : Stream) (kept piece l : List ℕ) where
       }
 
   pub takes-none : g .done ≡ false → length piece ≡ 0
-      → Takes g kept piece l (record { used = 0; have = g .have; done = false; length = 0; complete = false }) kept l
+      → TakesIn g kept piece l (record { used = 0; have = g .have; done = false; length = 0; complete = false }) kept l
   takes-none d n =
       record {
         used = omega arith;
@@ -52,7 +52,7 @@ module _ (g : Stream) (kept piece l : List ℕ) where
       }
 
   pub takes-full : (k : ℕ) (l′ : List ℕ) → g .done ≡ false → (length piece ≡ 0 → ⊥) → 65535 ≤ g .index → Prints l (fullLine (g .index)) k l′
-      → Takes g kept piece l (record { used = length piece; have = 0; done = true; length = k; complete = false }) kept l′
+      → TakesIn g kept piece l (record { used = length piece; have = 0; done = true; length = k; complete = false }) kept l′
   takes-full k l′ d some le h =
       record {
         used = omega arith;
@@ -84,7 +84,7 @@ module _ (g : Stream) (kept piece l : List ℕ) where
         ∙ h .same (sizes (g .port) bs ms os) (65535 - g .index) (g .index) (get (g .port) bs ms os) rest
 
     pub takes-gathered : (t : Bool) → t ≡ isOpen kept′ (n + u)
-        → Takes g kept piece l (record { used = u; have = n + u; done = false; length = 0; complete = not t }) kept′ l
+        → TakesIn g kept piece l (record { used = u; have = n + u; done = false; length = 0; complete = not t }) kept′ l
     takes-gathered true o =
         record {
           used = h .used;

@@ -58,7 +58,7 @@ pub record Completed (g : Stream) (kept piece l : List ℕ) (r : Taken) (kept′
       (come kept′ (sizeOf kept′) ++ (drop (r .used) piece ++ rest))
 
 -- Of the piece so many bytes are used, at least one if there is one.
-pub record Takes (g : Stream) (kept piece l : List ℕ) (r : Taken) (kept′ l′ : List ℕ) : Type 0 where
+pub record TakesIn (g : Stream) (kept piece l : List ℕ) (r : Taken) (kept′ l′ : List ℕ) : Type 0 where
   pub used : r .used ≤ length piece
   pub further : 0 < length piece → 0 < r .used
   pub passed : r .complete ≡ false → Passed g kept piece l r kept′ l′

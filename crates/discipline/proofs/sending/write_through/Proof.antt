@@ -1,6 +1,6 @@
 -- `through::write_through` meets its contract. Assumes nothing.
 use lib.ListN.{length-drop, length, drop}
-use Rattle.port.specs.Sending.{result, written, Outcomes}
+use Rattle.port.specs.Sending.{result, afterWrite, Outcomes}
 use Rattle.discipline.proofs.sending.Laws.{rest-of, count-le, through-of, size-written}
 use Prim.Native.Nat.{_+_}
 use native.Mathlib.Omega.{arith}
@@ -54,7 +54,7 @@ add-t23 c =
     let start = back .before .before .before .before .before .before .before .before .before .before .before in
     let src = start .args .src .now in
     let m = a .last .1 .0 in
-    let g : result (w .result) (w .last .1 .0) (drop (a .result .answer .count) src) ≡ written (b .result .port) m (drop (a .result .answer .count) src) =
+    let g : result (w .result) (w .last .1 .0) (drop (a .result .answer .count) src) ≡ afterWrite (b .result .port) m (drop (a .result .answer .count) src) =
     rest-of (w .result) (w .last .1 .0) (b .result .port) m src (t .result) (a .result .answer .count) (t .ensures) (w .ensures) in
     omega (
       arith,
@@ -77,7 +77,7 @@ same-length c =
     let start = back .before .before .before .before .before .before .before .before .before .before .before in
     let src = start .args .src .now in
     let m = a .last .1 .0 in
-    let g : result (w .result) (w .last .1 .0) (drop (a .result .answer .count) src) ≡ written (b .result .port) m (drop (a .result .answer .count) src) =
+    let g : result (w .result) (w .last .1 .0) (drop (a .result .answer .count) src) ≡ afterWrite (b .result .port) m (drop (a .result .answer .count) src) =
     rest-of (w .result) (w .last .1 .0) (b .result .port) m src (t .result) (a .result .answer .count) (t .ensures) (w .ensures) in
     ap (λ (y : Outcomes). length (y .slice)) g ∙ size-written (b .result .port) m (drop (a .result .answer .count) src)
     ∙ ap (λ (y : Outcomes). length (y .slice)) (a .ensures) ∙ size-written (start .args .p) (start .args .out .now) src
@@ -96,7 +96,7 @@ returns c =
     let start = back .before .before .before .before .before .before .before .before .before .before .before in
     let src = start .args .src .now in
     let m = a .last .1 .0 in
-    let g : result (w .result) (w .last .1 .0) (drop (a .result .answer .count) src) ≡ written (b .result .port) m (drop (a .result .answer .count) src) =
+    let g : result (w .result) (w .last .1 .0) (drop (a .result .answer .count) src) ≡ afterWrite (b .result .port) m (drop (a .result .answer .count) src) =
     rest-of (w .result) (w .last .1 .0) (b .result .port) m src (t .result) (a .result .answer .count) (t .ensures) (w .ensures) in
     let all = through-of (start .args .p) (start .args .out .now) src (start .args .dst .now) (b .last .1 .1 .0) m (w .last .1 .0) (a .result) (b .result)
     (w .result) (a .ensures) (b .ensures) g in

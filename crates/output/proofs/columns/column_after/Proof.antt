@@ -1,7 +1,7 @@
 -- `columns::column_after` meets its contract. Assumes nothing.
 use Prim.Native.Nat.{ℕ}
 use Rattle.output.specs.declared.expansion.Expansion.{Expansion}
-use Rattle.output.specs.expansion.Contract.{bytesOf}
+use Rattle.output.specs.expansion.Contract.{expandedBytes}
 use Rattle.rules.specs.Output.{columnAfter, columnsAfter}
 use mathlib.Core.Path.{sym, ap, _∙_}
 use borrow.Author.Needs.{needs}
@@ -33,26 +33,26 @@ column-after-spaces-requires : tie.Need-column-after-spaces-requires
 column-after-spaces-requires c κs = search needs
 
 returns : tie.Need-returns
-returns c = sym (ap (λ (k : Expansion). columnsAfter (c .before .before .args .x) (c .before .before .args .c) (bytesOf k)) (c .enum-told .given .1))
+returns c = sym (ap (λ (k : Expansion). columnsAfter (c .before .before .args .x) (c .before .before .args .c) (expandedBytes k)) (c .enum-told .given .1))
 
 returns-2 : tie.Need-returns-2
 returns-2 c =
     let at-e = c .before .before .e in
     let start = c .before .before .before .before in
-    c .next-column .ensures ∙ sym (ap (λ (k : Expansion). columnsAfter (start .args .x) (start .args .c) (bytesOf k)) (at-e .given .1))
+    c .next-column .ensures ∙ sym (ap (λ (k : Expansion). columnsAfter (start .args .x) (start .args .c) (expandedBytes k)) (at-e .given .1))
 
 returns-3 : tie.Need-returns-3
 returns-3 c =
     let at-enum-told2 = c .before .before .enum-told2 in
     let start = c .before .before .before .before in
     c .next-column3 .ensures ∙ ap (λ (k : ℕ). columnAfter (start .args .x) k 10) (c .before .next-column2 .ensures)
-    ∙ sym (ap (λ (k : Expansion). columnsAfter (start .args .x) (start .args .c) (bytesOf k)) (at-enum-told2 .given .1))
+    ∙ sym (ap (λ (k : Expansion). columnsAfter (start .args .x) (start .args .c) (expandedBytes k)) (at-enum-told2 .given .1))
 
 returns-4 : tie.Need-returns-4
 returns-4 c =
     let at-e2 = c .before .before .e2 in
     let start = c .before .before .before .before in
-    c .column-after-spaces .ensures ∙ sym (ap (λ (k : Expansion). columnsAfter (start .args .x) (start .args .c) (bytesOf k)) (at-e2 .given .1))
+    c .column-after-spaces .ensures ∙ sym (ap (λ (k : Expansion). columnsAfter (start .args .x) (start .args .c) (expandedBytes k)) (at-e2 .given .1))
 
 pub column-after-spec : {M : Type 1} → statement M
 column-after-spec =

@@ -1,6 +1,6 @@
 -- `expansion::width` meets its contract. Assumes nothing.
 use Rattle.output.specs.declared.expansion.Expansion.{Expansion}
-use Rattle.output.specs.expansion.Contract.{bytesOf}
+use Rattle.output.specs.expansion.Contract.{expandedBytes}
 use lib.ListN.{length, length-replicate}
 use mathlib.Core.Path.{sym, ap, _∙_}
 use borrow.Author.Needs.{needs}
@@ -29,7 +29,7 @@ returns-3 : tie.Need-returns-3
 returns-3 c = search needs
 
 returns-4 : tie.Need-returns-4
-returns-4 c = sym (ap (λ (k : Expansion). length (bytesOf k)) (c .before .e .given .1) ∙ length-replicate (c .before .e .given .0 .0) 32)
+returns-4 c = sym (ap (λ (k : Expansion). length (expandedBytes k)) (c .before .e .given .1) ∙ length-replicate (c .before .e .given .0 .0) 32)
 
 pub width-spec : {M : Type 1} → statement M
 width-spec =

@@ -74,7 +74,7 @@ returns c =
     let same : input.unitOf (at-unit-of .result) ≡ k = at-unit-of .ensures in
     let tells : input.TellsUnit (p .input) (length bs) (p .line) (p .settings .icanon) (length k) (at-unit-fits .result) =
     rw (← at-size .ensures ∙ ap (λ (y : List Place). length y) same) (at-unit-fits .ensures) in
-    let kept : input.Becomes (p .input) bs ms (fit.keptIn (p .settings .icanon) (input.get (p .input) bs ms) k) (at-store .result) (at-store .last .1 .0)
+    let kept : input.InputBecomes (p .input) bs ms (fit.keptIn (p .settings .icanon) (input.get (p .input) bs ms) k) (at-store .result) (at-store .last .1 .0)
     (at-store .last .1 .1 .0) = rw (← same) (at-store .ensures) in
     stored-unit p bs ms os (start .pre) k (echo.storedEcho (p .settings) b) (at-unit-fits .result) (at-store .result) (at-of-stored .result)
     (c .stored .result) (at-store .last .1 .0) (at-store .last .1 .1 .0) (at-of-stored .last .1 .1 .0) tells (at-if1 .taken) kept (at-of-stored .ensures)
