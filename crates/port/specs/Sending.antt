@@ -1,7 +1,6 @@
 -- What the calls on the output promise: the answer, the port and every byte of the slices, by the rules. A write and a
--- transmit are lent the output's slice alone, so the rules are asked at a state whose input is empty; `for-any-input` in
--- crates/writing/proofs/Promises.antt and `transmits-for-any-input` in crates/transmitting/proofs/Promises.antt say that
--- they answer the same at every input.
+-- transmit are lent the output's slice alone, so the rules are asked at a state whose input is empty; `for-any-input` and
+-- `transmits-for-any-input` in crates/discipline/proofs/sending/Promises.antt say that they answer the same at every input.
 use Prim.Native.Nat.{ℕ, _+_, _%_}
 use mathlib.Core.Bool.{Bool, true, false, cond}
 use mathlib.Core.List.{List, []}

@@ -52,18 +52,11 @@ pub enum Meaning {
     Stores(u8),
 }
 
-// b is the special character c, and c is enabled
-fn is(b: u8, c: u8) -> bool
-    ensures { λ r. ⌜ r ≡ rule.is b c ⌝ }
-{
-    b == c && c != 255
-}
-
-// the same, under a flag
+// b is the special character c, under a flag
 fn special(flag: bool, b: u8, c: u8) -> bool
     ensures { λ r. ⌜ r ≡ (flag && rule.is b c) ⌝ }
 {
-    flag && is(b, c)
+    flag && settings::is(b, c)
 }
 
 // 'Under ICANON a non-literal 10, EOL or EOL2 .. ends the line.'
@@ -76,7 +69,7 @@ fn ends_line(x: Settings, b: u8) -> bool
     if b == 10 {
         return true;
     }
-    is(b, x.eol) || is(b, x.eol2)
+    settings::is(b, x.eol) || settings::is(b, x.eol2)
 }
 
 // 9. 'Store.'

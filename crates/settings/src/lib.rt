@@ -98,7 +98,7 @@ fn characters(x: Settings) -> [u8; 13]
 }
 
 // b is the special character c, and c is enabled.
-fn is(b: u8, c: u8) -> bool
+pub fn is(b: u8, c: u8) -> bool
     ensures { λ r. ⌜ r ≡ «is» b c ⌝ }
 {
     b == c && c != 255

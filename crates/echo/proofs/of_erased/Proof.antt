@@ -1,4 +1,4 @@
--- `showing::of_erased` meets its contract. Assumes nothing.
+-- `echo::of_erased` meets its contract. Assumes nothing.
 use Rattle.echo.proofs.Laws.{shows-as, shows-none, erased-rubs, erased-own, erased-clear}
 use Rattle.echo.specs.Contract.{erasedEcho}
 use Rattle.rules.specs.Echo.{visible, rubout}

@@ -1,4 +1,4 @@
--- `showing::of_killed` meets its contract. Assumes nothing.
+-- `echo::of_killed` meets its contract. Assumes nothing.
 use Rattle.echo.proofs.Laws.{shows-as, shows-none, killed-rubs, killed-line, killed-own, killed-clear}
 use Rattle.echo.specs.Contract.{killedEcho}
 use Rattle.rules.specs.Echo.{visible, rubout}

@@ -1,4 +1,4 @@
--- `showing::of_stored` meets its contract. Assumes nothing.
+-- `echo::of_stored` meets its contract. Assumes nothing.
 use Rattle.echo.proofs.Laws.{shows-as, shows-none, stored-set, stored-newline, stored-clear}
 use Rattle.rules.specs.Echo.{visible, storedEcho}
 use mathlib.Core.List.{[], _∷_}

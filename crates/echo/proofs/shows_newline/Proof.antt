@@ -1,4 +1,4 @@
--- `showing::shows_newline` meets its contract. Assumes nothing.
+-- `echo::shows_newline` meets its contract. Assumes nothing.
 use Rattle.echo.proofs.Laws.{all-three, not-second, not-first}
 use Rattle.echo.proofs.shows_newline.Statement.{statement}
 use Rattle.echo.proofs.shows_newline.Tie as tie

@@ -1,4 +1,4 @@
--- `shown::is_shown` meets its contract. Assumes nothing.
+-- `editing::is_shown` meets its contract. Assumes nothing.
 use Rattle.editing.proofs.Shown.{shown-silent, shown-first, shown-behind}
 use borrow.Author.Needs.{needs}
 use Rattle.editing.proofs.is_shown.Statement.{statement}

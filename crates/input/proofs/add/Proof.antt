@@ -1,4 +1,4 @@
--- `places::add` meets its contract. Assumes nothing.
+-- `input::add` meets its contract. Assumes nothing.
 use Rattle.input.proofs.Laws.{added-one}
 use borrow.Author.Needs.{needs}
 use Rattle.input.proofs.add.Statement.{statement}

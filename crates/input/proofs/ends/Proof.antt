@@ -1,4 +1,4 @@
--- `marks::ends` meets its contract, which is its test. Assumes nothing.
+-- `input::ends` meets its contract, which is its test. Assumes nothing.
 use mathlib.Core.Path.{refl}
 use Rattle.input.proofs.ends.Statement.{statement}
 use Rattle.input.proofs.ends.Tie as tie

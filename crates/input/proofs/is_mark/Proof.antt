@@ -1,4 +1,4 @@
--- `marks::is_mark` meets its contract, which is its test. Assumes nothing.
+-- `input::is_mark` meets its contract, which is its test. Assumes nothing.
 use mathlib.Core.Path.{refl}
 use Rattle.input.proofs.is_mark.Statement.{statement}
 use Rattle.input.proofs.is_mark.Tie as tie

@@ -1,4 +1,4 @@
--- `marks::silent` meets its contract, which is its test. Assumes nothing.
+-- `input::silent` meets its contract, which is its test. Assumes nothing.
 use mathlib.Core.Path.{refl}
 use Rattle.input.proofs.silent.Statement.{statement}
 use Rattle.input.proofs.silent.Tie as tie

@@ -1,4 +1,4 @@
--- `marks::starts` meets its contract, which is its test. Assumes nothing.
+-- `input::starts` meets its contract, which is its test. Assumes nothing.
 use mathlib.Core.Path.{refl}
 use Rattle.input.proofs.starts.Statement.{statement}
 use Rattle.input.proofs.starts.Tie as tie

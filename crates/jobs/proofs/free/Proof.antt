@@ -1,4 +1,4 @@
--- `verdicts::free` meets its contract. Assumes nothing.
+-- `jobs::free` meets its contract. Assumes nothing.
 use borrow.Author.Needs.{needs}
 use Rattle.jobs.proofs.free.Statement.{statement}
 use Rattle.jobs.proofs.free.Tie as tie

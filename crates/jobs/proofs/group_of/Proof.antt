@@ -1,4 +1,4 @@
--- `groups::group_of` meets its contract. Assumes nothing.
+-- `jobs::group_of` meets its contract. Assumes nothing.
 use borrow.Author.Tests.{eq-eqb, ne-eqb}
 use Rattle.jobs.proofs.group_of.Statement.{statement}
 use Rattle.jobs.proofs.group_of.Tie as tie

@@ -1,4 +1,4 @@
--- `verdicts::in_foreground` meets its contract. Assumes nothing.
+-- `jobs::in_foreground` meets its contract. Assumes nothing.
 use borrow.Author.Needs.{needs}
 use Rattle.jobs.proofs.in_foreground.Statement.{statement}
 use Rattle.jobs.proofs.in_foreground.Tie as tie

@@ -1,4 +1,4 @@
--- `verdicts::read_verdict` meets its contract. Assumes nothing.
+-- `jobs::read_verdict` meets its contract. Assumes nothing.
 use mathlib.Core.Path.{_≡_, sym, _∙_}
 use mathlib.Core.Bool.{false}
 use mathlib.Core.Logic.{⊎-elim}

@@ -1,4 +1,4 @@
--- `reporting::reported` meets its contract. Assumes nothing.
+-- `jobs::reported` meets its contract. Assumes nothing.
 use borrow.Author.Needs.{needs}
 use Rattle.jobs.proofs.reported.Statement.{statement}
 use Rattle.jobs.proofs.reported.Tie as tie

@@ -1,4 +1,4 @@
--- `verdicts::settings_verdict` meets its contract: it is the promise of `write_verdict`. Assumes nothing.
+-- `jobs::settings_verdict` meets its contract: it is the promise of `write_verdict`. Assumes nothing.
 use borrow.Author.Needs.{needs}
 use Rattle.jobs.proofs.settings_verdict.Statement.{statement}
 use Rattle.jobs.proofs.settings_verdict.Tie as tie

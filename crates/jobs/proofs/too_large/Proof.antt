@@ -1,4 +1,4 @@
--- `groups::too_large` meets its contract, which is its test. Assumes nothing.
+-- `jobs::too_large` meets its contract, which is its test. Assumes nothing.
 use mathlib.Core.Path.{refl}
 use Rattle.jobs.proofs.too_large.Statement.{statement}
 use Rattle.jobs.proofs.too_large.Tie as tie

@@ -1,4 +1,4 @@
--- `verdicts::write_verdict` meets its contract. Assumes nothing.
+-- `jobs::write_verdict` meets its contract. Assumes nothing.
 use mathlib.Core.Path.{sym, _∙_}
 use borrow.Author.Needs.{needs}
 use Rattle.jobs.proofs.write_verdict.Statement.{statement}

@@ -1,4 +1,4 @@
--- `queuing::bell` meets its contract. Assumes nothing.
+-- `output::bell` meets its contract. Assumes nothing.
 use Rattle.output.proofs.Laws.{fits-of, full-of}
 use mathlib.Core.List.{[], _∷_}
 use native.Mathlib.Omega.{arith}

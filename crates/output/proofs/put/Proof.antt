@@ -1,4 +1,4 @@
--- `queuing::put` meets its contract. Assumes nothing.
+-- `output::put` meets its contract. Assumes nothing.
 use Rattle.output.proofs.Run.{turns}
 use Rattle.output.proofs.Laws.{range-none, get-length, len-now, same-size, twice}
 use Rattle.output.specs.declared.expansion.Expansion.{Expansion}

@@ -1,4 +1,4 @@
--- `queuing::put_byte` meets its contract. Assumes nothing.
+-- `output::put_byte` meets its contract. Assumes nothing.
 use Rattle.output.proofs.Laws.{pushed}
 use borrow.Author.Needs.{needs}
 use Rattle.output.proofs.put_byte.Statement.{statement}

@@ -1,4 +1,4 @@
--- `queuing::put_spaces` meets its contract. Assumes nothing.
+-- `output::put_spaces` meets its contract. Assumes nothing.
 use Rattle.rules.specs.Sizes.{Output as Ruled}
 use borrow.Author.Needs.{needs}
 use native.Mathlib.Nat.{le-antisymm}

@@ -1,4 +1,4 @@
--- `queuing::rub_one` meets its contract. Assumes nothing.
+-- `output::rub_one` meets its contract. Assumes nothing.
 use Rattle.output.proofs.Laws.{get-length, len-now, same-size, twice}
 use Rattle.rules.specs.Output.{queued}
 use lib.ListN.{length}

@@ -1,4 +1,4 @@
--- `queuing::rub_out` meets its contract. Assumes nothing.
+-- `output::rub_out` meets its contract. Assumes nothing.
 use borrow.Author.Needs.{needs}
 use native.Mathlib.Nat.{le-antisymm}
 use Rattle.rules.specs.Echo.{rubout}

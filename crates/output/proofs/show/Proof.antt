@@ -1,4 +1,4 @@
--- `queuing::show` meets its contract. Assumes nothing.
+-- `output::show` meets its contract. Assumes nothing.
 use borrow.Author.Needs.{needs}
 use lib.ListN.{take, length}
 use Rattle.rules.specs.Output.{written}

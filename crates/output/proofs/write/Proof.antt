@@ -1,4 +1,4 @@
--- `queuing::write` meets its contract. Assumes nothing.
+-- `output::write` meets its contract. Assumes nothing.
 use borrow.Author.Needs.{needs}
 use Rattle.output.proofs.Run.{SoFar, start, next, full, done, wrote}
 use Rattle.output.proofs.Laws.{same-size}

@@ -1,4 +1,4 @@
--- `assembling::assemble` meets its contract, which is what it puts together. Assumes nothing.
+-- `port::assemble` meets its contract, which is what it puts together. Assumes nothing.
 use mathlib.Core.Path.{refl}
 use Rattle.port.proofs.assemble.Statement.{statement}
 use Rattle.port.proofs.assemble.Tie as tie

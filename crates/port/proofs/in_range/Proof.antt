@@ -1,4 +1,4 @@
--- `calling::in_range` meets its contract. Assumes nothing.
+-- `port::in_range` meets its contract. Assumes nothing.
 use mathlib.Core.Path.{ap, _∙_}
 use Rattle.input.specs.Contract.{fitted}
 use Rattle.input.specs.declared.Input.{Input}

@@ -1,4 +1,4 @@
--- `runs::push_all` meets its contract: after i turns the first i bytes stand behind what was held. Assumes nothing.
+-- `queue::push_all` meets its contract: after i turns the first i bytes stand behind what was held. Assumes nothing.
 use Prim.Native.Nat.{_-_}
 use native.Mathlib.Omega.{arith}
 use borrow.Author.Needs.{needs}

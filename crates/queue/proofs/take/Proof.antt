@@ -1,4 +1,4 @@
--- `runs::take` meets its contract: after i turns the first i bytes held stand in dst. Assumes nothing.
+-- `queue::take` meets its contract: after i turns the first i bytes held stand in dst. Assumes nothing.
 use Prim.Native.Nat.{_-_}
 use native.Mathlib.Omega.{arith}
 use borrow.Author.Needs.{needs}

@@ -1,4 +1,4 @@
--- `beginning::begins` meets its contract. Assumes nothing.
+-- `received::begins` meets its contract. Assumes nothing.
 use mathlib.Core.Path.{ap, _∙_}
 use mathlib.Core.Bool.{Bool, false}
 use Rattle.input.specs.declared.Input.{Input}

@@ -1,4 +1,4 @@
--- `carrying::carries` meets its contract. Assumes nothing.
+-- `received::carries` meets its contract. Assumes nothing.
 use mathlib.Core.Path.{refl, sym}
 use mathlib.Core.Bool.{true, false}
 use lib.ListN.{length}

@@ -1,4 +1,4 @@
--- `goodbyte::good` meets its contract. Assumes nothing.
+-- `received::good` meets its contract. Assumes nothing.
 use mathlib.Core.Path.{sym, subst}
 use Rattle.port.specs.declared.Port.{Port}
 use Rattle.port.specs.Layers.{Ready}

@@ -1,4 +1,4 @@
--- `beginning::resumes` meets its contract. Assumes nothing.
+-- `received::resumes` meets its contract. Assumes nothing.
 use mathlib.Core.Path.{ap, _∙_}
 use mathlib.Core.Bool.{Bool, _&&_}
 use Rattle.received.proofs.GoodByte.{resumes-both, resumes-not}

@@ -1,4 +1,4 @@
--- `goodbyte::tells` meets its contract. Assumes nothing.
+-- `received::tells` meets its contract. Assumes nothing.
 use mathlib.Core.Path.{refl, sym, ap, _∙_}
 use Rattle.rules.specs.Received.{reported}
 use Rattle.received.proofs.GoodByte.{told}

@@ -1,4 +1,4 @@
--- `bodies::count_of` meets its contract. Assumes nothing.
+-- `records::count_of` meets its contract. Assumes nothing.
 use mathlib.Core.Path.{ap₂, _∙_}
 use Rattle.rules.specs.Trace.{two}
 use borrow.Author.Needs.{needs}

@@ -1,4 +1,4 @@
--- `bodies::number_of` meets its contract. Assumes nothing.
+-- `records::number_of` meets its contract. Assumes nothing.
 use mathlib.Core.Path.{_∙_}
 use Rattle.rules.specs.Trace.{four}
 use borrow.Author.Needs.{needs}

@@ -1,4 +1,4 @@
--- `bodies::two` meets its contract. Assumes nothing.
+-- `records::two` meets its contract. Assumes nothing.
 use mathlib.Core.Path.{refl}
 use borrow.Author.Needs.{needs}
 use Rattle.records.proofs.two.Statement.{statement}

@@ -1,4 +1,4 @@
--- `bodies::value` meets its contract: a place beyond the end reads 0. Assumes nothing.
+-- `records::value` meets its contract: a place beyond the end reads 0. Assumes nothing.
 use mathlib.Core.Path.{sym}
 use borrow.Author.Needs.{needs}
 use lib.ListN.{List·getD-eq-default}

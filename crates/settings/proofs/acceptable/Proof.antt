@@ -1,4 +1,4 @@
--- `accepting::acceptable` meets its contract: its three findings are those of rules' `acceptable` (Pairs, `judged`). Assumes nothing.
+-- `settings::acceptable` meets its contract: its three findings are those of rules' `acceptable` (Pairs, `judged`). Assumes nothing.
 use mathlib.Core.Path.{refl, sym, _∙_}
 use mathlib.Core.Bool.{true, false}
 use borrow.Author.Needs.{needs}

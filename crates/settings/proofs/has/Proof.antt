@@ -1,4 +1,4 @@
--- `accepting::has` meets its contract: the verdict on all characters is that on those from place i on. Assumes nothing.
+-- `settings::has` meets its contract: the verdict on all characters is that on those from place i on. Assumes nothing.
 use Prim.Native.Nat.{_≤_, _-_}
 use denote.Ref.{now}
 use mathlib.Core.Path.{_≡_, refl, sym, _∙_}

@@ -1,4 +1,4 @@
--- `accepting::is` meets its contract: by the first test. Assumes nothing.
+-- `settings::is` meets its contract: by the first test. Assumes nothing.
 use borrow.Author.Tests.{eq-eqb, ne-eqb}
 use Rattle.settings.proofs.is.Statement.{statement}
 use Rattle.settings.proofs.is.Tie as tie

@@ -1,4 +1,4 @@
--- `accepting::paired` meets its contract: while no pair is found, the verdict on all characters is that on those from place i on;
+-- `settings::paired` meets its contract: while no pair is found, the verdict on all characters is that on those from place i on;
 -- within a turn, b is among those from place i + 1 on exactly if it is among those from place j on. Assumes nothing.
 use Prim.Native.Nat.{_+_, _≤_, _-_}
 use mathlib.Core.Path.{_≡_, refl, ap, sym, _∙_}

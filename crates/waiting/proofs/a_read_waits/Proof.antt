@@ -1,4 +1,4 @@
--- `clashing::a_read_waits` meets its contract. Assumes nothing.
+-- `waiting::a_read_waits` meets its contract. Assumes nothing.
 use borrow.Author.Needs.{needs}
 use Rattle.waiting.proofs.a_read_waits.Statement.{statement}
 use Rattle.waiting.proofs.a_read_waits.Tie as tie

@@ -1,4 +1,4 @@
--- `timing::between_bytes` meets its contract. Assumes nothing.
+-- `waiting::between_bytes` meets its contract. Assumes nothing.
 use borrow.Author.Tests.{lt-ltb, le-ltb}
 use Rattle.waiting.proofs.between_bytes.Statement.{statement}
 use Rattle.waiting.proofs.between_bytes.Tie as tie

@@ -1,4 +1,4 @@
--- `clashing::clashes` meets its contract. Assumes nothing.
+-- `waiting::clashes` meets its contract. Assumes nothing.
 use borrow.Author.Needs.{needs}
 use Rattle.waiting.proofs.clashes.Statement.{statement}
 use Rattle.waiting.proofs.clashes.Tie as tie

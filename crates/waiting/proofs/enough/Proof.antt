@@ -1,4 +1,4 @@
--- `sufficing::enough` meets its contract. Assumes nothing.
+-- `waiting::enough` meets its contract. Assumes nothing.
 use borrow.Author.Tests.{eq-eqb, ne-eqb}
 use borrow.Author.Needs.{needs}
 use Rattle.waiting.proofs.enough.Statement.{statement}

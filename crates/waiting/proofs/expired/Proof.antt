@@ -1,4 +1,4 @@
--- `expiring::expired` meets its contract. Assumes nothing.
+-- `waiting::expired` meets its contract. Assumes nothing.
 use borrow.Author.Needs.{needs}
 use Rattle.waiting.proofs.expired.Statement.{statement}
 use Rattle.waiting.proofs.expired.Tie as tie

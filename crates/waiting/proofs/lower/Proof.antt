@@ -1,4 +1,4 @@
--- `timer::lower` meets its contract: a walk of its MIR, by hand. The timer is laid in a local, the local is lent to `tick` for a lifetime
+-- `waiting::lower` meets its contract: a walk of its MIR, by hand. The timer is laid in a local, the local is lent to `tick` for a lifetime
 -- of the call, and it comes back at the last value that `tick` ensures, which is returned. All that the proof knows of `tick` is that it
 -- meets its contract.
 -- Assumes nothing.

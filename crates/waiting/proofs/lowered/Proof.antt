@@ -1,4 +1,4 @@
--- `expiring::lowered` meets its contract. Assumes nothing.
+-- `waiting::lowered` meets its contract. Assumes nothing.
 use borrow.Author.Needs.{needs}
 use Rattle.waiting.proofs.lowered.Statement.{statement}
 use Rattle.waiting.proofs.lowered.Tie as tie

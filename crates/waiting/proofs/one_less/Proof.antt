@@ -1,4 +1,4 @@
--- `timer::one_less` meets its contract. Assumes nothing.
+-- `waiting::one_less` meets its contract. Assumes nothing.
 use borrow.Author.Needs.{needs}
 use Rattle.waiting.proofs.one_less.Statement.{statement}
 use Rattle.waiting.proofs.one_less.Tie as tie

@@ -1,4 +1,4 @@
--- `restarting::restarted` meets its contract. Assumes nothing.
+-- `waiting::restarted` meets its contract. Assumes nothing.
 use borrow.Author.Tests.{eq-eqb, ne-eqb}
 use borrow.Author.Needs.{needs}
 use Rattle.waiting.proofs.restarted.Statement.{statement}

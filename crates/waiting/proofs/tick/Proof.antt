@@ -1,4 +1,4 @@
--- `timer::tick` meets its contract: a walk of its MIR, by hand. The borrow is opened, the field is read and handed to `one_less`, what
+-- `waiting::tick` meets its contract: a walk of its MIR, by hand. The borrow is opened, the field is read and handed to `one_less`, what
 -- comes back is written to the field, and the borrow is closed at the record with the new value. All that the proof knows of `one_less`
 -- is that it meets its contract.
 -- Assumes nothing.

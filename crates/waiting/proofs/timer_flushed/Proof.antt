@@ -1,4 +1,4 @@
--- `timing::timer_flushed` meets its contract. Assumes nothing.
+-- `waiting::timer_flushed` meets its contract. Assumes nothing.
 use borrow.Author.Needs.{needs}
 use Rattle.waiting.proofs.timer_flushed.Statement.{statement}
 use Rattle.waiting.proofs.timer_flushed.Tie as tie

@@ -1,4 +1,4 @@
--- `restarting::timer_stored` meets its contract. Assumes nothing.
+-- `waiting::timer_stored` meets its contract. Assumes nothing.
 use borrow.Author.Needs.{needs}
 use Rattle.waiting.proofs.timer_stored.Statement.{statement}
 use Rattle.waiting.proofs.timer_stored.Tie as tie

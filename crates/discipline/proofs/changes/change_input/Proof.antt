@@ -1,4 +1,4 @@
--- `changes::change_input` meets its contract. Assumes nothing.
+-- `discipline::changes::change_input` meets its contract. Assumes nothing.
 use Rattle.discipline.proofs.changes.Laws.{sound-marks, stays-on, stays-off, goes-off, goes-on}
 use borrow.Author.Needs.{needs}
 use Rattle.discipline.proofs.changes.change_input.Statement.{statement}

@@ -1,4 +1,4 @@
--- `changes::change_output` meets its contract. Assumes nothing.
+-- `discipline::changes::change_output` meets its contract. Assumes nothing.
 use Rattle.discipline.proofs.changes.Laws.{output-on, output-off, output-stays}
 use borrow.Author.Needs.{needs}
 use Rattle.discipline.proofs.changes.change_output.Statement.{statement}

@@ -1,4 +1,4 @@
--- `conditions::break_condition` meets its contract: it is the promise of `receive` for that event. Assumes nothing.
+-- `discipline::events::break_condition` meets its contract: it is the promise of `receive` for that event. Assumes nothing.
 use borrow.Author.Needs.{needs}
 use Rattle.discipline.proofs.events.break_condition.Statement.{statement}
 use Rattle.discipline.proofs.events.break_condition.Tie as tie

@@ -1,4 +1,4 @@
--- `flushes::flush` meets its contract. Assumes nothing.
+-- `discipline::events::flush` meets its contract. Assumes nothing.
 use Rattle.discipline.proofs.events.Laws.{flush-1, flush-2, flush-3, flush-none}
 use Rattle.port.proofs.Calls.{ranged-ranged}
 use borrow.Author.Needs.{needs}

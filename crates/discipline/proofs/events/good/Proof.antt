@@ -1,4 +1,4 @@
--- `events::good` meets its contract: it is the promise of `receive` for that event. Assumes nothing.
+-- `discipline::events::good` meets its contract: it is the promise of `receive` for that event. Assumes nothing.
 use borrow.Author.Needs.{needs}
 use Rattle.discipline.proofs.events.good.Statement.{statement}
 use Rattle.discipline.proofs.events.good.Tie as tie

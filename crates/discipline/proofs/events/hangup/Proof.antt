@@ -1,4 +1,4 @@
--- `conditions::hangup` meets its contract: it is the promise of `receive` for that event. Assumes nothing.
+-- `discipline::events::hangup` meets its contract: it is the promise of `receive` for that event. Assumes nothing.
 use borrow.Author.Needs.{needs}
 use Rattle.discipline.proofs.events.hangup.Statement.{statement}
 use Rattle.discipline.proofs.events.hangup.Tie as tie

@@ -1,4 +1,4 @@
--- `conditions::tick` meets its contract: it is the promise of `receive` for that event. Assumes nothing.
+-- `discipline::events::tick` meets its contract: it is the promise of `receive` for that event. Assumes nothing.
 use borrow.Author.Needs.{needs}
 use Rattle.discipline.proofs.events.tick.Statement.{statement}
 use Rattle.discipline.proofs.events.tick.Tie as tie

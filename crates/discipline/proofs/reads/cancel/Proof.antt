@@ -1,4 +1,4 @@
--- `calls::cancel` meets its contract. Assumes nothing.
+-- `discipline::reads::cancel` meets its contract. Assumes nothing.
 use Rattle.discipline.proofs.reads.Laws.{cancel-of}
 use borrow.Author.Needs.{needs}
 use Rattle.discipline.proofs.reads.cancel.Statement.{statement}

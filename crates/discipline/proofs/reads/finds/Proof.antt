@@ -1,4 +1,4 @@
--- `taking::finds` meets its contract. Assumes nothing.
+-- `discipline::reads::finds` meets its contract. Assumes nothing.
 use mathlib.Core.Path.{sym, ap, _∙_}
 use mathlib.Core.Bool.{Bool, true, false, _||_}
 use Rattle.rules.specs.Reads.{enough, expired}

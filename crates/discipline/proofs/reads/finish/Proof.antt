@@ -1,4 +1,4 @@
--- `finishing::finish` meets its contract. Assumes nothing.
+-- `discipline::reads::finish` meets its contract. Assumes nothing.
 use Rattle.discipline.proofs.reads.Laws.{line-given, bytes-given}
 use borrow.Author.Needs.{needs}
 use Rattle.discipline.proofs.reads.finish.Statement.{statement}

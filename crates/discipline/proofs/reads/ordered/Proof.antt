@@ -1,4 +1,4 @@
--- `reads::ordered` meets its contract. Assumes nothing.
+-- `discipline::reads::ordered` meets its contract. Assumes nothing.
 use Rattle.discipline.proofs.reads.Laws.{hung-read, clash-read, none-read, ruled-read}
 use borrow.Author.Needs.{needs}
 use Rattle.discipline.proofs.reads.ordered.Statement.{statement}

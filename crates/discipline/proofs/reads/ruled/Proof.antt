@@ -1,4 +1,4 @@
--- `taking::ruled` meets its contract. Assumes nothing.
+-- `discipline::reads::ruled` meets its contract. Assumes nothing.
 use Rattle.discipline.proofs.reads.Laws.{nothing-there, at-once, done-now, waits-on}
 use borrow.Author.Needs.{needs}
 use Rattle.discipline.proofs.reads.ruled.Statement.{statement}

@@ -1,4 +1,4 @@
--- `writing::nothing_taken` meets its contract. Assumes nothing.
+-- `discipline::sending::nothing_taken` meets its contract. Assumes nothing.
 use Rattle.discipline.proofs.sending.Laws.{some-bytes, no-bytes}
 use Rattle.discipline.proofs.sending.nothing_taken.Statement.{statement}
 use Rattle.discipline.proofs.sending.nothing_taken.Tie as tie

@@ -1,4 +1,4 @@
--- `transmitting::transmit` meets its contract. Assumes nothing.
+-- `discipline::sending::transmit` meets its contract. Assumes nothing.
 use Rattle.discipline.proofs.sending.Laws.{sent-of}
 use borrow.Author.Needs.{needs}
 use Rattle.discipline.proofs.sending.transmit.Statement.{statement}

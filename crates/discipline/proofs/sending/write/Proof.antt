@@ -1,4 +1,4 @@
--- `writing::write` meets its contract. Assumes nothing.
+-- `discipline::sending::write` meets its contract. Assumes nothing.
 use lib.Dec.{ltb}
 use lib.ListN.{length}
 use Rattle.discipline.proofs.sending.Laws.{hung-of, none-of, some-of, counted-none}

@@ -1,4 +1,4 @@
--- `through::write_through` meets its contract. Assumes nothing.
+-- `discipline::sending::write_through` meets its contract. Assumes nothing.
 use lib.ListN.{length-drop, length, drop}
 use Rattle.port.specs.Sending.{result, afterWrite, Outcomes}
 use Rattle.discipline.proofs.sending.Laws.{rest-of, count-le, through-of, size-written}

@@ -1,4 +1,4 @@
--- `calls::foreground` meets its contract. Assumes nothing.
+-- `discipline::verdicts::foreground` meets its contract. Assumes nothing.
 use Rattle.discipline.proofs.verdicts.Laws.{group-refused, group-set}
 use borrow.Author.Needs.{needs}
 use Rattle.discipline.proofs.verdicts.foreground.Statement.{statement}

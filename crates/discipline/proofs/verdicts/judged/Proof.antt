@@ -1,4 +1,4 @@
--- `judging::judged` meets its contract. Assumes nothing.
+-- `discipline::verdicts::judged` meets its contract. Assumes nothing.
 use Rattle.discipline.proofs.verdicts.Laws.{judged-large, judged-none, judged-given}
 use borrow.Author.Needs.{needs}
 use Rattle.discipline.proofs.verdicts.judged.Statement.{statement}

@@ -1,4 +1,4 @@
--- `judging::write_verdict` meets its contract. Assumes nothing.
+-- `discipline::verdicts::write_verdict` meets its contract. Assumes nothing.
 use Rattle.discipline.proofs.verdicts.Laws.{verdict-of}
 use Rattle.port.specs.State.{get}
 use borrow.Author.Needs.{needs}

@@ -1,4 +1,4 @@
--- `classes::class_of` meets its contract: an entry stands for its class. Assumes nothing.
+-- `editing::classes::class_of` meets its contract: an entry stands for its class. Assumes nothing.
 use mathlib.Core.Path.{_≡_, ap, sym, _∙_}
 use borrow.Author.Needs.{needs}
 use Rattle.rules.specs.Classes.{classOf}

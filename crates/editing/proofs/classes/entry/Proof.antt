@@ -1,4 +1,4 @@
--- `classes::entry` meets its contract: the rule of the whole table (Rule, `entry-at`), whose test is computed. Assumes nothing.
+-- `editing::classes::entry` meets its contract: the rule of the whole table (Rule, `entry-at`), whose test is computed. Assumes nothing.
 use borrow.Author.Needs.{needs}
 use Rattle.editing.proofs.classes.Rule.{entry-at}
 use Rattle.editing.proofs.classes.entry.Statement.{statement}

@@ -1,4 +1,4 @@
--- `reprinting::fits` meets its contract. Assumes nothing.
+-- `editing::reprinting::fits` meets its contract. Assumes nothing.
 use Prim.Native.Nat.{_-_}
 use native.Mathlib.Omega.{arith}
 use borrow.Author.Needs.{needs}

@@ -1,4 +1,4 @@
--- `reprinting::measured` meets its contract. Assumes nothing.
+-- `editing::reprinting::measured` meets its contract. Assumes nothing.
 use Rattle.rules.specs.Echo.{visible}
 use Rattle.echo.proofs.Laws.{extends-as}
 use Rattle.editing.specs.reprinting.Contract.{placeEcho}

@@ -1,4 +1,4 @@
--- `reprinting::of_reprinted` meets its contract. Assumes nothing.
+-- `editing::reprinting::of_reprinted` meets its contract. Assumes nothing.
 use Rattle.editing.proofs.reprinting.Laws.{room-for, reprints, reprints-nothing, reprints-unseen}
 use borrow.Author.Needs.{needs}
 use Rattle.editing.proofs.reprinting.of_reprinted.Statement.{statement}

@@ -1,4 +1,4 @@
--- `reprinting::shown` meets its contract. Assumes nothing.
+-- `editing::reprinting::shown` meets its contract. Assumes nothing.
 use Rattle.rules.specs.Echo.{visible}
 use Rattle.echo.proofs.Laws.{shows-as, shows-none}
 use Rattle.editing.specs.reprinting.Contract.{placeEcho}

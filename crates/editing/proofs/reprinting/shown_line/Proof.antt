@@ -1,4 +1,4 @@
--- `reprinting::shown_line` meets its contract. Assumes nothing.
+-- `editing::reprinting::shown_line` meets its contract. Assumes nothing.
 use Prim.Native.Nat.{_-_}
 use native.Mathlib.Omega.{arith}
 use borrow.Author.Needs.{needs}

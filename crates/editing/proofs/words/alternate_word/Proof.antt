@@ -1,4 +1,4 @@
--- `words::alternate_word` meets its contract. Assumes nothing.
+-- `editing::words::alternate_word` meets its contract. Assumes nothing.
 use native.Mathlib.Omega.{arith}
 use Rattle.editing.proofs.words.Laws.{alternate-of}
 use borrow.Author.Needs.{needs}

@@ -1,4 +1,4 @@
--- `words::last_word` meets its contract. Assumes nothing.
+-- `editing::words::last_word` meets its contract. Assumes nothing.
 use Rattle.editing.proofs.words.Laws.{by-alternate, by-word}
 use borrow.Author.Needs.{needs}
 use Rattle.editing.proofs.words.last_word.Statement.{statement}

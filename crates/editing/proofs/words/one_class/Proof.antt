@@ -1,4 +1,4 @@
--- `words::one_class` meets its contract. Assumes nothing.
+-- `editing::words::one_class` meets its contract. Assumes nothing.
 use Rattle.editing.specs.declared.words.Test.the-variants.{Letters, Others}
 use Rattle.rules.specs.Editing.{oneClass}
 use mathlib.Core.Bool.{true, false}

@@ -1,4 +1,4 @@
--- `words::passes_at` meets its contract. Assumes nothing.
+-- `editing::words::passes_at` meets its contract. Assumes nothing.
 use Rattle.editing.proofs.words.Laws.{passes-single, passes-several}
 use borrow.Author.Needs.{needs}
 use Rattle.editing.proofs.words.passes_at.Statement.{statement}

@@ -1,4 +1,4 @@
--- `words::trailing` meets its contract. Assumes nothing.
+-- `editing::words::trailing` meets its contract. Assumes nothing.
 use borrow.Author.Tests.{not-true, not-false}
 use mathlib.Core.Path.{sym, _∙_}
 use Rattle.editing.specs.words.Contract.{testOf}

@@ -1,4 +1,4 @@
--- `words::word` meets its contract. Assumes nothing.
+-- `editing::words::word` meets its contract. Assumes nothing.
 use Rattle.editing.proofs.words.Laws.{word-of}
 use borrow.Author.Needs.{needs}
 use Rattle.editing.proofs.words.word.Statement.{statement}

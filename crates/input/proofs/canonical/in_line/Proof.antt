@@ -1,4 +1,4 @@
--- `joining::in_line` meets its contract. Assumes nothing.
+-- `input::canonical::in_line` meets its contract. Assumes nothing.
 use native.Mathlib.Omega.{arith}
 use borrow.Author.Needs.{needs}
 use Rattle.input.proofs.canonical.in_line.Statement.{statement}

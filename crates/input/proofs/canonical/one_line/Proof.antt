@@ -1,4 +1,4 @@
--- `joining::one_line` meets its contract. Assumes nothing.
+-- `input::canonical::one_line` meets its contract. Assumes nothing.
 use Prim.Native.Nat.{_-_}
 use native.Mathlib.Omega.{arith}
 use Rattle.input.proofs.canonical.GoesOn.{Lined, line-begin, line-next, line-end}

@@ -1,4 +1,4 @@
--- `switching::without_marks` meets its contract. Assumes nothing.
+-- `input::canonical::without_marks` meets its contract. Assumes nothing.
 use mathlib.Core.Path.{_∙_}
 use borrow.Author.Needs.{needs}
 use native.Mathlib.Omega.{arith}

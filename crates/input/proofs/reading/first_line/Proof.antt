@@ -1,4 +1,4 @@
--- `firstline::first_line` meets its contract. Assumes nothing.
+-- `input::reading::first_line` meets its contract. Assumes nothing.
 use Prim.Native.Nat.{_≤_, _<_, _-_, min}
 use borrow.Author.Needs.{needs}
 use native.Mathlib.Omega.{arith}

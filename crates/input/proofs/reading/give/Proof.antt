@@ -1,4 +1,4 @@
--- `reading::give` meets its contract. Assumes nothing.
+-- `input::reading::give` meets its contract. Assumes nothing.
 use Rattle.input.proofs.reading.Laws.{part-length, given-of}
 use borrow.Author.Needs.{needs}
 use Rattle.input.proofs.reading.give.Statement.{statement}

@@ -1,4 +1,4 @@
--- `reading::read_bytes` meets its contract. Assumes nothing.
+-- `input::reading::read_bytes` meets its contract. Assumes nothing.
 use Rattle.input.proofs.reading.Laws.{bytes-reads}
 use borrow.Author.Needs.{needs}
 use Rattle.input.proofs.reading.read_bytes.Statement.{statement}

@@ -1,4 +1,4 @@
--- `reading::read_line` meets its contract. Assumes nothing.
+-- `input::reading::read_line` meets its contract. Assumes nothing.
 use Rattle.input.proofs.reading.Laws.{line-gives, line-reads}
 use borrow.Author.Needs.{needs}
 use Rattle.input.proofs.reading.read_line.Statement.{statement}

@@ -1,4 +1,4 @@
--- `units::add_unit` meets its contract. Assumes nothing.
+-- `input::units::add_unit` meets its contract. Assumes nothing.
 use mathlib.Core.List.{[], _∷_}
 use mathlib.Core.Path.{refl}
 use Rattle.input.proofs.Laws.{first-room, unit-room, unit-added, grown-room, grown-twice}

@@ -1,4 +1,4 @@
--- `closing::end` meets its contract. Assumes nothing.
+-- `input::units::end` meets its contract. Assumes nothing.
 use Rattle.rules.specs.Sizes.{delimiter}
 use Rattle.input.proofs.Laws.{ends-line}
 use borrow.Author.Needs.{needs}

@@ -1,4 +1,4 @@
--- `places::end_fits` meets its contract. Assumes nothing.
+-- `input::units::end_fits` meets its contract. Assumes nothing.
 use mathlib.Core.Path.{refl}
 use Rattle.input.proofs.Laws.{end-fits-of}
 use Rattle.input.proofs.units.end_fits.Statement.{statement}

@@ -1,4 +1,4 @@
--- `closing::end_of_file` meets its contract. Assumes nothing.
+-- `input::units::end_of_file` meets its contract. Assumes nothing.
 use Rattle.rules.specs.Sizes.{endOfFile}
 use Rattle.input.proofs.Laws.{ends-line}
 use borrow.Author.Needs.{needs}

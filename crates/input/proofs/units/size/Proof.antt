@@ -1,4 +1,4 @@
--- `forming::size` meets its contract. Assumes nothing.
+-- `input::units::size` meets its contract. Assumes nothing.
 use borrow.Author.Needs.{needs}
 use Rattle.input.proofs.units.size.Statement.{statement}
 use Rattle.input.proofs.units.size.Tie as tie

@@ -1,4 +1,4 @@
--- `units::store` meets its contract. Assumes nothing.
+-- `input::units::store` meets its contract. Assumes nothing.
 use Rattle.input.specs.Contract.{unitOf}
 use Rattle.input.proofs.Laws.{stores-current, stores-finished}
 use borrow.Author.Needs.{needs}

@@ -1,4 +1,4 @@
--- `units::unit_fits` meets its contract. Assumes nothing.
+-- `input::units::unit_fits` meets its contract. Assumes nothing.
 use Prim.Native.Nat.{_-_}
 use native.Mathlib.Omega.{arith}
 use Rattle.input.proofs.Laws.{unit-fits-line, unit-fits-raw, no-line, no-room, room-left, no-places, places-left}

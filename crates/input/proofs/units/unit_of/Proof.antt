@@ -1,4 +1,4 @@
--- `forming::unit_of` meets its contract. Assumes nothing.
+-- `input::units::unit_of` meets its contract. Assumes nothing.
 use Rattle.input.proofs.units.Laws.{unit-255, unit-plain}
 use borrow.Author.Tests.{ne-eqb}
 use mathlib.Core.Bool.{true, false}

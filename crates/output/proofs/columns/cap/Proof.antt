@@ -1,4 +1,4 @@
--- `columns::cap` meets its contract. Assumes nothing.
+-- `output::columns::cap` meets its contract. Assumes nothing.
 use borrow.Author.Tests.{lt-ltb, le-ltb}
 use borrow.Author.Needs.{needs}
 use Rattle.output.proofs.columns.cap.Statement.{statement}

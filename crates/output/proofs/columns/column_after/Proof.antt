@@ -1,4 +1,4 @@
--- `columns::column_after` meets its contract. Assumes nothing.
+-- `output::columns::column_after` meets its contract. Assumes nothing.
 use Prim.Native.Nat.{ℕ}
 use Rattle.output.specs.declared.expansion.Expansion.{Expansion}
 use Rattle.output.specs.expansion.Contract.{expandedBytes}

@@ -1,4 +1,4 @@
--- `columns::column_after_spaces` meets its contract. Assumes nothing.
+-- `output::columns::column_after_spaces` meets its contract. Assumes nothing.
 use borrow.Author.Needs.{needs}
 use Rattle.output.proofs.columns.Columns.{spaces-next}
 use lib.ListN.{replicate}

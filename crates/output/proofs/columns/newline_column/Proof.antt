@@ -1,4 +1,4 @@
--- `columns::newline_column` meets its contract. Assumes nothing.
+-- `output::columns::newline_column` meets its contract. Assumes nothing.
 use borrow.Author.Needs.{needs}
 use Rattle.output.proofs.columns.newline_column.Statement.{statement}
 use Rattle.output.proofs.columns.newline_column.Tie as tie

@@ -1,4 +1,4 @@
--- `columns::next_column` meets its contract. Assumes nothing.
+-- `output::columns::next_column` meets its contract. Assumes nothing.
 use Rattle.output.proofs.columns.Columns.{column-newline}
 use Rattle.rules.specs.Output.{columnAfter}
 use mathlib.Core.Path.{_∙_}

@@ -1,4 +1,4 @@
--- `expansion::carriage_return` meets its contract. Assumes nothing.
+-- `output::expansion::carriage_return` meets its contract. Assumes nothing.
 use borrow.Author.Tests.{eq-eqb, ne-eqb}
 use Rattle.output.proofs.expansion.carriage_return.Statement.{statement}
 use Rattle.output.proofs.expansion.carriage_return.Tie as tie

@@ -1,4 +1,4 @@
--- `expansion::expand` meets its contract. Assumes nothing.
+-- `output::expansion::expand` meets its contract. Assumes nothing.
 use Rattle.output.proofs.expansion.Expansions.{expand-tab}
 use Rattle.rules.specs.Output.{expand}
 use borrow.Author.Tests.{eq-eqb, ne-eqb}

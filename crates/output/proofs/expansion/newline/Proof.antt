@@ -1,4 +1,4 @@
--- `expansion::newline` meets its contract. Assumes nothing.
+-- `output::expansion::newline` meets its contract. Assumes nothing.
 use borrow.Author.Tests.{eq-eqb, ne-eqb}
 use Rattle.output.proofs.expansion.newline.Statement.{statement}
 use Rattle.output.proofs.expansion.newline.Tie as tie

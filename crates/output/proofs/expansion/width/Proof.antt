@@ -1,4 +1,4 @@
--- `expansion::width` meets its contract. Assumes nothing.
+-- `output::expansion::width` meets its contract. Assumes nothing.
 use Rattle.output.specs.declared.expansion.Expansion.{Expansion}
 use Rattle.output.specs.expansion.Contract.{expandedBytes}
 use lib.ListN.{length, length-replicate}

@@ -1,4 +1,4 @@
--- `Port::fresh` meets its contract. Assumes nothing.
+-- `port::Port::fresh` meets its contract. Assumes nothing.
 use Rattle.rules.specs.declared.Waiting.the-variants.{Idle}
 use Rattle.rules.specs.declared.Group.the-variants.{Nobody}
 use mathlib.Core.Bool.{false}

@@ -1,4 +1,4 @@
--- `arrival::arrives` meets its contract. Assumes nothing.
+-- `received::arrival::arrives` meets its contract. Assumes nothing.
 use mathlib.Core.Path.{refl}
 use Rattle.received.proofs.arrival.Laws.{comes}
 use borrow.Author.Needs.{needs}

@@ -1,4 +1,4 @@
--- `arrival::breaks` meets its contract. Assumes nothing.
+-- `received::arrival::breaks` meets its contract. Assumes nothing.
 use Rattle.received.proofs.arrival.breaks.Statement.{statement}
 use Rattle.received.proofs.arrival.breaks.Tie as tie
 

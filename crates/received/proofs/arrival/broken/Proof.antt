@@ -1,4 +1,4 @@
--- `arrival::broken` meets its contract. Assumes nothing.
+-- `received::arrival::broken` meets its contract. Assumes nothing.
 use Rattle.received.proofs.arrival.broken.Statement.{statement}
 use Rattle.received.proofs.arrival.broken.Tie as tie
 

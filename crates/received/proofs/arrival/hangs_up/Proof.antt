@@ -1,4 +1,4 @@
--- `arrival::hangs_up` meets its contract. Assumes nothing.
+-- `received::arrival::hangs_up` meets its contract. Assumes nothing.
 use Rattle.received.proofs.arrival.hangs_up.Statement.{statement}
 use Rattle.received.proofs.arrival.hangs_up.Tie as tie
 

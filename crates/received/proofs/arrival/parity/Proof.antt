@@ -1,4 +1,4 @@
--- `arrival::parity` meets its contract. Assumes nothing.
+-- `received::arrival::parity` meets its contract. Assumes nothing.
 use borrow.Author.Needs.{needs}
 use Rattle.received.proofs.arrival.parity.Statement.{statement}
 use Rattle.received.proofs.arrival.parity.Tie as tie

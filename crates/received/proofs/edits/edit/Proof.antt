@@ -1,4 +1,4 @@
--- `edits::edit` meets its contract. Assumes nothing.
+-- `received::edits::edit` meets its contract. Assumes nothing.
 use mathlib.Core.Path.{refl, sym}
 use Rattle.port.proofs.Layers.{within-marks}
 use Rattle.received.proofs.edits.Laws.{edited-by}

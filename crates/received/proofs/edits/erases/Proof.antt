@@ -1,4 +1,4 @@
--- `erasing::erases` meets its contract. Assumes nothing.
+-- `received::edits::erases` meets its contract. Assumes nothing.
 use mathlib.Core.Path.{refl}
 use Rattle.rules.specs.Editing.{erase, wordErase}
 use Rattle.echo.specs.Contract.{erasedEcho}

@@ -1,4 +1,4 @@
--- `erasing::kills` meets its contract. Assumes nothing.
+-- `received::edits::kills` meets its contract. Assumes nothing.
 use mathlib.Core.Path.{refl}
 use Rattle.rules.specs.Editing.{kill}
 use Rattle.echo.specs.Contract.{killedEcho}

@@ -1,4 +1,4 @@
--- `reshowing::reprints` meets its contract. Assumes nothing.
+-- `received::edits::reprints` meets its contract. Assumes nothing.
 use Rattle.received.proofs.edits.Laws.{reprinted}
 use Rattle.port.proofs.Layers.{within-marks}
 use borrow.Author.Needs.{needs}

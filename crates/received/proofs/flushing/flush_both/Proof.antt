@@ -1,4 +1,4 @@
--- `signalling::flush_both` meets its contract. Assumes nothing.
+-- `received::flushing::flush_both` meets its contract. Assumes nothing.
 use Rattle.received.proofs.flushing.Laws.{flushed-both}
 use borrow.Author.Needs.{needs}
 use Rattle.received.proofs.flushing.flush_both.Statement.{statement}

@@ -1,4 +1,4 @@
--- `flushing::flush_input` meets its contract. Assumes nothing.
+-- `received::flushing::flush_input` meets its contract. Assumes nothing.
 use Rattle.received.proofs.flushing.Laws.{flushed-of}
 use mathlib.Core.Bool.{Bool}
 use Rattle.rules.specs.Flushing as flushing

@@ -1,4 +1,4 @@
--- `signalling::flush_unless` meets its contract. Assumes nothing.
+-- `received::flushing::flush_unless` meets its contract. Assumes nothing.
 use Rattle.received.proofs.flushing.Laws.{unless-kept, unless-flushed}
 use borrow.Author.Needs.{needs}
 use Rattle.received.proofs.flushing.flush_unless.Statement.{statement}

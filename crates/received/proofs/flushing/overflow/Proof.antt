@@ -1,4 +1,4 @@
--- `flushing::overflow` meets its contract. Assumes nothing.
+-- `received::flushing::overflow` meets its contract. Assumes nothing.
 use Rattle.received.proofs.flushing.Laws.{bell-of, flushes-of}
 use borrow.Author.Needs.{needs}
 use Rattle.received.proofs.flushing.overflow.Statement.{statement}

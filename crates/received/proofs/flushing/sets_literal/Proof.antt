@@ -1,4 +1,4 @@
--- `stopping::sets_literal` meets its contract. Assumes nothing.
+-- `received::flushing::sets_literal` meets its contract. Assumes nothing.
 use mathlib.Core.Path.{ap, _∙_}
 use Rattle.input.specs.declared.Input.{Input}
 use Rattle.port.specs.Layers.{assembled}

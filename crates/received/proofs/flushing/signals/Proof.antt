@@ -1,4 +1,4 @@
--- `signalling::signals` meets its contract. Assumes nothing.
+-- `received::flushing::signals` meets its contract. Assumes nothing.
 use Rattle.received.proofs.flushing.Laws.{signals-of}
 use borrow.Author.Needs.{needs}
 use Rattle.received.proofs.flushing.signals.Statement.{statement}

@@ -1,4 +1,4 @@
--- `stopping::stopped_to` meets its contract. Assumes nothing.
+-- `received::flushing::stopped_to` meets its contract. Assumes nothing.
 use mathlib.Core.Path.{ap, _∙_}
 use Rattle.output.specs.declared.Output.{Output}
 use Rattle.port.specs.State.{withOutput}

@@ -1,4 +1,4 @@
--- `flushing::stored` meets its contract. Assumes nothing.
+-- `received::flushing::stored` meets its contract. Assumes nothing.
 use Rattle.port.specs.Layers.{assembled}
 use Rattle.rules.specs.Fit as fit
 use Rattle.rules.specs.declared.Waiting.{Waiting}

@@ -1,4 +1,4 @@
--- `meaning::ends_line` meets its contract. Assumes nothing.
+-- `received::meaning::ends_line` meets its contract. Assumes nothing.
 use mathlib.Core.Path.{sym, _∙_}
 use borrow.Author.Tests.{eq-eqb, ne-eqb, not-true, not-false}
 use borrow.Author.Needs.{needs}

@@ -1,4 +1,4 @@
--- `mapping::mapped` meets its contract. Assumes nothing.
+-- `received::meaning::mapped` meets its contract. Assumes nothing.
 use Prim.Native.Nat.{ℕ}
 use mathlib.Core.Path.{_≡_}
 use mathlib.Core.Bool.{false, _&&_}

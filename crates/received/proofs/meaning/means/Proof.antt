@@ -1,4 +1,4 @@
--- `meaning::means` meets its contract. Assumes nothing.
+-- `received::meaning::means` meets its contract. Assumes nothing.
 use mathlib.Core.Path.{sym, _∙_}
 use borrow.Author.Needs.{needs}
 use Rattle.received.proofs.meaning.means.Statement.{statement}

@@ -1,4 +1,4 @@
--- `meaning::special` meets its contract. Assumes nothing.
+-- `received::meaning::special` meets its contract. Assumes nothing.
 use borrow.Author.Needs.{needs}
 use Rattle.received.proofs.meaning.special.Statement.{statement}
 use Rattle.received.proofs.meaning.special.Tie as tie

@@ -1,4 +1,4 @@
--- `meaning::step5` meets its contract. Assumes nothing.
+-- `received::meaning::step5` meets its contract. Assumes nothing.
 use borrow.Author.Needs.{needs}
 use Rattle.received.proofs.meaning.Laws.{held, passed}
 use Rattle.received.proofs.meaning.step5.Statement.{statement}

@@ -1,4 +1,4 @@
--- `meaning::step7` meets its contract. Assumes nothing.
+-- `received::meaning::step7` meets its contract. Assumes nothing.
 use Prim.Native.Nat.{ℕ}
 use mathlib.Core.Path.{_≡_, ap, _∙_}
 use mathlib.Core.Bool.{false, _&&_}

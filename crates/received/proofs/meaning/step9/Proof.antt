@@ -1,4 +1,4 @@
--- `meaning::step9` meets its contract. Assumes nothing.
+-- `received::meaning::step9` meets its contract. Assumes nothing.
 use mathlib.Core.Path.{refl}
 use borrow.Author.Needs.{needs}
 use Rattle.received.proofs.meaning.Laws.{held, passed}

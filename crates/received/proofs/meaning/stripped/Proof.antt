@@ -1,4 +1,4 @@
--- `mapping::stripped` meets its contract. Assumes nothing.
+-- `received::meaning::stripped` meets its contract. Assumes nothing.
 use Rattle.received.proofs.meaning.stripped.Statement.{statement}
 use Rattle.received.proofs.meaning.stripped.Tie as tie
 

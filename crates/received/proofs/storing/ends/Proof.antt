@@ -1,4 +1,4 @@
--- `ending::ends` meets its contract. Assumes nothing.
+-- `received::storing::ends` meets its contract. Assumes nothing.
 use Rattle.received.proofs.storing.Laws.{end-room, ended-line, dropped-end}
 use Rattle.rules.specs.Sizes.{delimiter}
 use Rattle.rules.specs.Echo as echo

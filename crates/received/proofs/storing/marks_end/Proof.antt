@@ -1,4 +1,4 @@
--- `marking::marks_end` meets its contract. Assumes nothing.
+-- `received::storing::marks_end` meets its contract. Assumes nothing.
 use Rattle.received.proofs.storing.Laws.{end-room, ended-line, dropped-end, unseen}
 use Rattle.rules.specs.Sizes.{endOfFile}
 use mathlib.Core.List.{[]}

@@ -1,4 +1,4 @@
--- `unechoed::silently` meets its contract. Assumes nothing.
+-- `received::storing::silently` meets its contract. Assumes nothing.
 use Rattle.received.proofs.storing.Laws.{unit-room, stored-unit, dropped-unit, unseen}
 use mathlib.Core.List.{[]}
 use Rattle.input.specs.Contract as input

@@ -1,4 +1,4 @@
--- `storing::stores` meets its contract. Assumes nothing.
+-- `received::storing::stores` meets its contract. Assumes nothing.
 use Rattle.received.proofs.storing.Laws.{unit-room, stored-unit, dropped-unit}
 use mathlib.Core.List.{List}
 use mathlib.Core.Bool.{false}

@@ -1,4 +1,4 @@
--- `texts::put_digits` meets its contract: it calls itself for all digits but the last, with one digit fewer to write. Assumes nothing.
+-- `records::lines::put_digits` meets its contract: it calls itself for all digits but the last, with one digit fewer to write. Assumes nothing.
 use mathlib.Core.Path.{ap, sym}
 use mathlib.Core.List.{[], _∷_}
 use mathlib.Core.Logic.{⊎-elim}

@@ -1,4 +1,4 @@
--- `hex::hex_digit` meets its contract: by its test. Assumes nothing.
+-- `records::lines::hex_digit` meets its contract: by its test. Assumes nothing.
 use borrow.Author.Tests.{lt-ltb, le-ltb}
 use borrow.Author.Needs.{needs}
 use Rattle.records.proofs.lines.hex_digit.Statement.{statement}

@@ -1,4 +1,4 @@
--- `lines::outcome_word` meets its contract: each outcome has its word. Assumes nothing.
+-- `records::lines::outcome_word` meets its contract: each outcome has its word. Assumes nothing.
 use mathlib.Core.Path.{ap, sym, _∙_}
 use Rattle.rules.specs.Trace.{outcomeWord}
 use borrow.Author.Needs.{needs}

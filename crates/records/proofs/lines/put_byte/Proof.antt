@@ -1,4 +1,4 @@
--- `texts::put_byte` meets its contract: there is room, or there is not. Assumes nothing.
+-- `records::lines::put_byte` meets its contract: there is room, or there is not. Assumes nothing.
 use denote.Ref.{now}
 use Rattle.records.proofs.lines.Texts.{no-room}
 use borrow.Author.Needs.{needs}

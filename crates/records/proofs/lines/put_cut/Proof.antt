@@ -1,4 +1,4 @@
--- `lastlines::put_cut` meets its contract: its two texts are laid one after the other. Assumes nothing.
+-- `records::lines::put_cut` meets its contract: its two texts are laid one after the other. Assumes nothing.
 use Rattle.records.proofs.lines.Texts.{then}
 use Rattle.records.proofs.lines.Front.{prints}
 use borrow.Author.Needs.{needs}

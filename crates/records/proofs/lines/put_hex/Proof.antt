@@ -1,4 +1,4 @@
--- `hex::put_hex` meets its contract: the first i bytes are laid as two digits each; no byte is a dash. Assumes nothing.
+-- `records::lines::put_hex` meets its contract: the first i bytes are laid as two digits each; no byte is a dash. Assumes nothing.
 use lib.Seq.{take-all}
 use Prim.Native.Nat.{ℕ, _-_, _≤_}
 use mathlib.Core.Path.{_≡_, ap, sym, _∙_}

@@ -1,4 +1,4 @@
--- `lines::put_line` meets its contract: its texts are laid one after the other. Assumes nothing.
+-- `records::lines::put_line` meets its contract: its texts are laid one after the other. Assumes nothing.
 use Rattle.rules.specs.Trace.{decimal, outcomeWord}
 use Rattle.records.proofs.lines.Texts.{then}
 use Rattle.records.proofs.lines.Front.{prints}

@@ -1,4 +1,4 @@
--- `lines::put_number` meets its contract: the number, then the space. Assumes nothing.
+-- `records::lines::put_number` meets its contract: the number, then the space. Assumes nothing.
 use Rattle.records.proofs.lines.Texts.{then}
 use borrow.Author.Needs.{needs}
 use Rattle.records.proofs.lines.put_number.Statement.{statement}

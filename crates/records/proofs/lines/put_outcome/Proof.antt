@@ -1,4 +1,4 @@
--- `lines::put_outcome` meets its contract: the word, then the space. Assumes nothing.
+-- `records::lines::put_outcome` meets its contract: the word, then the space. Assumes nothing.
 use native.Mathlib.Omega.{arith}
 use lib.ListN.{length-take}
 use Rattle.records.proofs.lines.Texts.{then, same-text}

@@ -1,4 +1,4 @@
--- `texts::put_word` meets its contract: the first i bytes of the word are laid. Assumes nothing.
+-- `records::lines::put_word` meets its contract: the first i bytes of the word are laid. Assumes nothing.
 use lib.Seq.{take-all}
 use Prim.Native.Nat.{_-_, _≤_}
 use native.Mathlib.Omega.{arith}

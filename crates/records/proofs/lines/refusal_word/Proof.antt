@@ -1,4 +1,4 @@
--- `lines::refusal_word` meets its contract: each refusal has its word. Assumes nothing.
+-- `records::lines::refusal_word` meets its contract: each refusal has its word. Assumes nothing.
 use mathlib.Core.Path.{ap, sym}
 use Rattle.records.specs.lines.Lines.{refusalWord}
 use borrow.Author.Needs.{needs}

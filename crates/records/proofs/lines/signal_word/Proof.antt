@@ -1,4 +1,4 @@
--- `lines::signal_word` meets its contract: each signal has its word. Assumes nothing.
+-- `records::lines::signal_word` meets its contract: each signal has its word. Assumes nothing.
 use mathlib.Core.Path.{ap, sym}
 use Rattle.rules.specs.Trace.{signalWord}
 use borrow.Author.Needs.{needs}

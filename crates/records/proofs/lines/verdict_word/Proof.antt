@@ -1,4 +1,4 @@
--- `lines::verdict_word` meets its contract: each verdict has its word. Assumes nothing.
+-- `records::lines::verdict_word` meets its contract: each verdict has its word. Assumes nothing.
 use mathlib.Core.Path.{ap, sym}
 use Rattle.rules.specs.Trace.{verdictWord}
 use borrow.Author.Needs.{needs}

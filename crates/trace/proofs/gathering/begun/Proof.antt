@@ -1,4 +1,4 @@
--- `gathering::begun` meets its contract. Assumes nothing.
+-- `trace::gathering::begun` meets its contract. Assumes nothing.
 use Rattle.trace.proofs.gathering.Laws.{begun-open, begun-none}
 use borrow.Author.Needs.{needs}
 use Rattle.trace.proofs.gathering.begun.Statement.{statement}

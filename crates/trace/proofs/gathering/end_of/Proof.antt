@@ -1,4 +1,4 @@
--- `gathering::end_of` meets its contract. Assumes nothing.
+-- `trace::gathering::end_of` meets its contract. Assumes nothing.
 use mathlib.Core.Path.{_∙_, ap}
 use Prim.Native.Nat.{ℕ, _+_, min}
 use borrow.Author.Needs.{needs}

@@ -1,4 +1,4 @@
--- `gathering::gather` meets its contract. Assumes nothing.
+-- `trace::gathering::gather` meets its contract. Assumes nothing.
 use mathlib.Core.Path.{refl, sym, _∙_}
 use Rattle.trace.proofs.gathering.Laws.{Gathering, gathering-begins, gathering-next, gathered-all, gathered-some}
 use lib.ListN.{length}

@@ -1,4 +1,4 @@
--- `gathering::is_open` meets its contract. Assumes nothing.
+-- `trace::gathering::is_open` meets its contract. Assumes nothing.
 use Rattle.trace.proofs.gathering.Laws.{open-as}
 use borrow.Author.Needs.{needs}
 use Rattle.trace.proofs.gathering.is_open.Statement.{statement}

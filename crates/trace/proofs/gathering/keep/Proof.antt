@@ -1,4 +1,4 @@
--- `gathering::keep` meets its contract. Assumes nothing.
+-- `trace::gathering::keep` meets its contract. Assumes nothing.
 use lib.Seq.{set-out}
 use mathlib.Core.Path.{sym}
 use borrow.Author.Needs.{needs}

@@ -1,4 +1,4 @@
--- `gathering::kind_of` meets its contract. Assumes nothing.
+-- `trace::gathering::kind_of` meets its contract. Assumes nothing.
 use borrow.Author.Needs.{needs}
 use Rattle.trace.proofs.gathering.kind_of.Statement.{statement}
 use Rattle.trace.proofs.gathering.kind_of.Tie as tie

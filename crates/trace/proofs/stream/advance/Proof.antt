@@ -1,4 +1,4 @@
--- `feeding::advance` meets its contract. Assumes nothing.
+-- `trace::stream::advance` meets its contract. Assumes nothing.
 use mathlib.Core.Path.{_∙_}
 use native.Mathlib.Omega.{arith}
 use borrow.Author.Needs.{needs}

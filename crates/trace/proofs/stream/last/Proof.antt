@@ -1,4 +1,4 @@
--- `stream::last` meets its contract. Assumes nothing.
+-- `trace::stream::last` meets its contract. Assumes nothing.
 use Rattle.trace.proofs.stream.Laws.{last-done, last-none, last-full, last-cut}
 use borrow.Author.Needs.{needs}
 use Rattle.trace.proofs.stream.last.Statement.{statement}

@@ -1,4 +1,4 @@
--- `stream::take_in` meets its contract. Assumes nothing.
+-- `trace::stream::take_in` meets its contract. Assumes nothing.
 use borrow.Author.Needs.{needs}
 use Rattle.trace.proofs.gathering.Laws.{begun-is-open}
 use Rattle.trace.proofs.stream.Taking.{takes-done, takes-none, takes-full, takes-gathered}

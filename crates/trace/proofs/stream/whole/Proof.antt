@@ -1,4 +1,4 @@
--- `whole::whole` meets its contract. Assumes nothing.
+-- `trace::stream::whole` meets its contract. Assumes nothing.
 use Rattle.rules.specs.Trace.{trace}
 use Rattle.trace.proofs.stream.WholeInput.{Running, running-begins, running-size, running-room, running-next, running-done, printed-long}
 use lib.ListN.{length, drop, length-take, length-drop}

@@ -1,4 +1,4 @@
--- `columns::Measure::and` meets its contract. Assumes nothing.
+-- `output::columns::Measure::and` meets its contract. Assumes nothing.
 use Rattle.output.proofs.columns.Columns.{measured-full, measured-fits}
 use Rattle.output.specs.expansion.Contract.{expandedBytes}
 use borrow.Author.Needs.{needs}
