@@ -61,7 +61,7 @@ fn give(i: Input, bytes: &[u8], dst: &mut [u8], count: usize, taken: usize) -> T
     ensures { λ r. ⌜ Given i (before bytes) (before dst) count taken r (after dst) ⌝ }
 {
     let q = i.queue;
-    queue::take(q, bytes, &mut dst[..count]);
+    q.take(bytes, &mut dst[..count]);
     let queue = q.drop_oldest(bytes, taken);
     let input = Input {
         queue: queue,

@@ -9,13 +9,18 @@ use super::expansion;
 use super::expansion::Expansion;
 use rules::Settings;
 
-fn cap(w: u64) -> u32
-    ensures { λ r. ⌜ r ≡ capped w ⌝ }
+// 'A result above 65,535 becomes 65,528.'
+const LARGEST: u64 = 65535;
+
+const CAPPED: u32 = 65528;
+
+fn cap(column: u64) -> u32
+    ensures { λ r. ⌜ r ≡ capped column ⌝ }
 {
-    if w > 65535 {
-        return 65528;
+    if column > LARGEST {
+        return CAPPED;
     }
-    w as u32
+    column as u32
 }
 
 // 10 gives 0 under OPOST and ONLRET, else it leaves the column
@@ -34,47 +39,47 @@ fn newline_column(x: Settings, c: u32) -> u32
 pub fn next_column(x: Settings, c: u32, b: u8) -> u32
     ensures { λ r. ⌜ r ≡ columnAfter x c b ⌝ }
 {
-    let w = c as u64;
+    let wide = c as u64;
     if b == 13 {
         return 0;
     }
     if b == 8 {
-        if w == 0 {
+        if wide == 0 {
             return 0;
         }
-        return cap(w - 1);
+        return cap(wide - 1);
     }
     if b == 9 {
-        return cap(w / 8 * 8 + 8);
+        return cap(wide / 8 * 8 + 8);
     }
     if b == 10 {
         return newline_column(x, c);
     }
     if b < 32 {
-        return cap(w);
+        return cap(wide);
     }
     if b == 127 {
-        return cap(w);
+        return cap(wide);
     }
-    cap(w + 1)
+    cap(wide + 1)
 }
 
 fn column_after_spaces(x: Settings, c: u32, n: usize) -> u32
     ensures { λ r. ⌜ r ≡ columnsAfter x c (replicate n 32) ⌝ }
 {
     let mut column = c;
-    let mut i = 0;
-    while i < n {
+    let mut k = 0;
+    while k < n {
         column = next_column(x, column, 32);
-        i += 1;
+        k += 1;
     }
     column
 }
 
-fn column_after(x: Settings, c: u32, e: Expansion) -> u32
-    ensures { λ r. ⌜ r ≡ columnsAfter x c (expandedBytes e) ⌝ }
+fn column_after(x: Settings, c: u32, expanded: Expansion) -> u32
+    ensures { λ r. ⌜ r ≡ columnsAfter x c (expandedBytes expanded) ⌝ }
 {
-    match e {
+    match expanded {
         Expansion::Nothing => c,
         Expansion::Byte(b) => next_column(x, c, b),
         Expansion::Pair => next_column(x, next_column(x, c, 13), 10),
@@ -94,10 +99,10 @@ impl Measure {
     pub fn and(self, x: Settings, b: u8) -> Measure
         ensures { λ r. ⌜ Extends x self b r ⌝ }
     {
-        let e = expansion::expand(x, self.column, b);
-        let w = expansion::width(e);
+        let expanded = expansion::expand(x, self.column, b);
+        let width = expansion::width(expanded);
         let room = self.room;
-        if room < w {
+        if room < width {
             return Measure {
                 fits: false,
                 room: 0,
@@ -106,8 +111,8 @@ impl Measure {
         }
         Measure {
             fits: self.fits,
-            room: room - w,
-            column: column_after(x, self.column, e),
+            room: room - width,
+            column: column_after(x, self.column, expanded),
         }
     }
 }

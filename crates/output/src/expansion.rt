@@ -5,7 +5,7 @@ ghost use Rattle.rules.specs.Output.{expand, newline as newlineOf, return as re
 ghost use Rattle.output.specs.expansion.Contract.{expandedBytes};
 use rules::Settings;
 
-// What a written byte turns into.
+// Nothing, a byte, the pair 13,10, or so many spaces.
 pub enum Expansion {
     Nothing,
     Byte(u8),
@@ -55,8 +55,8 @@ pub fn expand(x: Settings, c: u32, b: u8) -> Expansion
         }
         if b == 9 {
             if x.tab3 {
-                let m = (c % 8) as usize;
-                return Expansion::Spaces(8 - m);
+                let past = (c % 8) as usize;
+                return Expansion::Spaces(8 - past);
             }
             return Expansion::Byte(9);
         }
@@ -70,10 +70,10 @@ pub fn expand(x: Settings, c: u32, b: u8) -> Expansion
     Expansion::Byte(b)
 }
 
-pub fn width(e: Expansion) -> usize
-    ensures { λ r. ⌜ r ≡ length (expandedBytes e) ⌝ }
+pub fn width(expanded: Expansion) -> usize
+    ensures { λ r. ⌜ r ≡ length (expandedBytes expanded) ⌝ }
 {
-    match e {
+    match expanded {
         Expansion::Nothing => 0,
         Expansion::Byte(_) => 1,
         Expansion::Pair => 2,

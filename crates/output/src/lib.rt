@@ -1,7 +1,7 @@
-// Document 01, 'Output': what is to be sent; transmits, a flush, the room for an echo.
-// Document 01, 'Output' and 'Echo': bytes are queued, by a write, as an echo that is queued whole or not at all, as a bell.
+// Document 01, 'Output' and 'Echo': what is to be sent. Bytes are queued by a write, as an echo that is queued whole or not at all, as a
+// bell; a transmit hands them out, and a flush empties the queue.
 pub mod columns;
-pub mod expansion;
+mod expansion;
 
 ghost use mathlib.Core.Path.{_≡_};
 ghost use mathlib.Core.List.{[], _∷_};
@@ -49,8 +49,7 @@ impl Output {
         let queue = q.fit(n);
         Output {
             queue: queue,
-            column: self.column,
-            stopped: self.stopped,
+            ..self
         }
     }
 
@@ -59,10 +58,10 @@ impl Output {
         ensures { λ r. ⌜ Begins self n r ⌝ }
     {
         let q = self.queue;
-        let f = q.fit(n);
+        let fitted = q.fit(n);
         Measure {
             fits: true,
-            room: n - f.len,
+            room: n - fitted.len,
             column: self.column,
         }
     }
@@ -72,22 +71,21 @@ impl Output {
         ensures { λ r. ⌜ Sends self (before out) (before dst) r (after dst) ⌝ }
     {
         if self.stopped {
-            let o = self.fit(out.len());
+            let output = self.fit(out.len());
             return Sent {
-                output: o,
+                output: output,
                 count: 0,
             };
         }
         let q = self.queue;
-        let t = queue::take(q, out, dst);
-        let queue = t.queue;
+        let taken = q.take(out, dst);
+        let queue = taken.queue;
         Sent {
             output: Output {
                 queue: queue,
-                column: self.column,
-                stopped: self.stopped,
+                ..self
             },
-            count: t.count,
+            count: taken.count,
         }
     }
 
@@ -99,19 +97,16 @@ impl Output {
         let queue = q.drop_all(n);
         Output {
             queue: queue,
-            column: self.column,
-            stopped: self.stopped,
+            ..self
         }
     }
 
     pub fn stop(self, stopped: bool) -> Output
         ensures { λ r. ⌜ r ≡ record { queue = self .queue; column = self .column; stopped = stopped } ⌝ }
     {
-        let queue = self.queue;
         Output {
-            queue: queue,
-            column: self.column,
             stopped: stopped,
+            ..self
         }
     }
 }
@@ -132,7 +127,7 @@ fn put_byte(o: Output, x: Settings, out: &mut [u8], b: u8) -> Output
     Output {
         queue: queue,
         column: column,
-        stopped: o.stopped,
+        ..o
     }
 }
 
@@ -141,19 +136,19 @@ fn put_spaces(was: Output, x: Settings, out: &mut [u8], n: usize) -> Output
     ensures { λ r. ⌜ OutputBecomes was (before out) (queued x (get was (before out)) (replicate n 32)) r (after out) ⌝ }
 {
     let mut o = was.fit(out.len());
-    let mut i = 0;
-    while i < n {
+    let mut k = 0;
+    while k < n {
         o = put_byte(o, x, out, 32);
-        i += 1;
+        k += 1;
     }
     o
 }
 
-fn put(o: Output, x: Settings, out: &mut [u8], e: Expansion) -> Output
-    requires { ⌜ o .queue .len + length (expandedBytes e) ≤ length (now out) ⌝ }
-    ensures { λ r. ⌜ OutputBecomes o (before out) (queued x (get o (before out)) (expandedBytes e)) r (after out) ⌝ }
+fn put(o: Output, x: Settings, out: &mut [u8], expanded: Expansion) -> Output
+    requires { ⌜ o .queue .len + length (expandedBytes expanded) ≤ length (now out) ⌝ }
+    ensures { λ r. ⌜ OutputBecomes o (before out) (queued x (get o (before out)) (expandedBytes expanded)) r (after out) ⌝ }
 {
-    match e {
+    match expanded {
         Expansion::Nothing => o.fit(out.len()),
         Expansion::Byte(b) => put_byte(o, x, out, b),
         Expansion::Pair => {
@@ -170,24 +165,24 @@ pub fn write(was: Output, x: Settings, out: &mut [u8], src: &[u8]) -> Wrote
 {
     let n = out.len();
     let mut o = was.fit(n);
-    let mut i = 0;
-    while i < src.len() {
-        let b = src[i];
-        let e = expansion::expand(x, o.column, b);
-        let w = expansion::width(e);
+    let mut k = 0;
+    while k < src.len() {
+        let b = src[k];
+        let expanded = expansion::expand(x, o.column, b);
+        let width = expansion::width(expanded);
         let q = o.queue;
-        if n - q.len < w {
+        if n - q.len < width {
             return Wrote {
                 output: o,
-                count: i,
+                count: k,
             };
         }
-        o = put(o, x, out, e);
-        i += 1;
+        o = put(o, x, out, expanded);
+        k += 1;
     }
     Wrote {
         output: o,
-        count: i,
+        count: k,
     }
 }
 
@@ -196,15 +191,15 @@ pub fn show(was: Output, x: Settings, out: &mut [u8], bytes: &[u8]) -> Output
     ensures { λ r. ⌜ Echoes x was (before out) (before bytes) r (after out) ⌝ }
 {
     let n = out.len();
-    let mut m = was.measure(n);
-    let mut i = 0;
-    while i < bytes.len() {
-        m = m.and(x, bytes[i]);
-        i += 1;
+    let mut measure = was.measure(n);
+    let mut k = 0;
+    while k < bytes.len() {
+        measure = measure.and(x, bytes[k]);
+        k += 1;
     }
-    if m.fits {
-        let r = write(was, x, out, bytes);
-        let o = r.output;
+    if measure.fits {
+        let wrote = write(was, x, out, bytes);
+        let o = wrote.output;
         return o;
     }
     was.fit(n)
@@ -230,10 +225,10 @@ pub fn rub_out(was: Output, x: Settings, out: &mut [u8], n: usize) -> Output
     if (size - q.len) / 3 < n {
         return o;
     }
-    let mut i = 0;
-    while i < n {
+    let mut k = 0;
+    while k < n {
         o = rub_one(o, x, out);
-        i += 1;
+        k += 1;
     }
     o
 }

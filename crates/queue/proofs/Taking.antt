@@ -1,89 +1,16 @@
--- A run of bytes, pushed or taken one after the other. Assumes nothing.
-use mathlib.Core.Path.{_≡_, refl, sym, ap, ap₂, subst, _∙_}
-use mathlib.Core.List.{List, [], _∷_, _++_, append-assoc, append-nil}
+-- The oldest bytes, taken one after the other. Assumes nothing.
+use mathlib.Core.Path.{_≡_, refl, sym, ap, ap₂, _∙_}
+use mathlib.Core.List.{List, [], _∷_, _++_}
 use mathlib.Core.Logic.{⊎-elim}
 use Prim.Native.Nat.{ℕ, zero, suc, _+_, _-_, _%_, _<_, _≤_, min}
-use native.Mathlib.Nat.{mod-mod}
 use native.Mathlib.Numerals.{add-one}
 use native.Mathlib.Omega.{arith}
 use lib.ListN.{length, getD, set, take, drop, length-append, length-take, length-drop}
-use lib.Seq.{take-suc, take-all}
-use Rattle.queue.specs.Ring.{stores}
-use Rattle.queue.specs.Queue.{held, fitted, laid, appended, Holds, Takes}
+use lib.Seq.{take-all}
+use Rattle.queue.specs.Queue.{held, fitted, Takes}
 use Rattle.queue.specs.declared.Queue.{Queue}
-use Rattle.queue.proofs.Rings.{lt-or-le, stores-length}
-use Rattle.queue.proofs.Laws.{appended-fits, held-length, held-fitted, held-laid, holds-same, stored-more, fit-len}
-
--- one byte more
-more : (q r s : Queue) (l l′ l″ c : List ℕ) (b : ℕ) → length c + 1 ≤ length l → Holds q l c r l′
-    → Holds r l′ (appended (length l′) (held r l′) (b ∷ [])) s l″ → Holds q l (c ++ (b ∷ [])) s l″
-more q r s l l′ l″ c b le h k =
-    let n : ℕ = length l in
-    let g : ℕ = q .head % n in
-    let a : List ℕ = appended (length l′) (held r l′) (b ∷ []) in
-    let long : length l′ ≡ n = ap length (h .ring) ∙ stores-length n g l c in
-    let head : r .head % length l′ ≡ g = ap₂ (λ (x y : ℕ). x % y) (ap (λ (y : Queue). y .head) (h .queue)) long ∙ mod-mod (q .head) n in
-    let has : held r l′ ≡ c = ap₂ held (h .queue) (h .ring) ∙ held-laid g l c (omega arith) in
-    let all : a ≡ c ++ (b ∷ []) =
-    ap₂ (λ (x : ℕ) (y : List ℕ). appended x y (b ∷ [])) long has ∙ appended-fits n c (b ∷ []) le in
-    record {
-      queue = k .queue ∙ ap₂ laid head all;
-      ring =
-          k .ring
-          ∙ ap (λ (x : ℕ). stores x l′ (r .head % length l′) a) long
-          ∙ ap (λ (m : List ℕ). stores n m (r .head % length l′) a) (h .ring)
-          ∙ ap₂ (λ (x : ℕ) (y : List ℕ). stores n (stores n l g c) x y) head all
-          ∙ stored-more n g l c (b ∷ []) (omega arith) (omega arith);
-    }
-
--- after i bytes of bs, from the queue p in range in slice l: queue r and slice m
-pub record Pushed (p : Queue) (l bs : List ℕ) (i : ℕ) (r : Queue) (m : List ℕ) : Type 0 where
-  pub upto : i ≤ length bs
-  pub fit : p .len + length bs ≤ length l
-  pub holds : Holds p l (held p l ++ take i bs) r m
-
-pub as-long : {p r : Queue} {l bs m : List ℕ} {i : ℕ} → Pushed p l bs i r m → length m ≡ length l
-as-long {p} {r} {l} {bs} {m} {i} a = ap length (a .holds .ring) ∙ stores-length (length l) (p .head % length l) l (held p l ++ take i bs)
-
-in-range : (q : Queue) (n : ℕ) → fitted n (fitted n q) ≡ fitted n q
-in-range q n = ap₂ (λ (h k : ℕ). record { head = h; len = k }) (mod-mod (q .head) n) (omega arith)
-
-module _ (q p : Queue) (l bs : List ℕ) (e : p ≡ fitted (length l) q) where
-  pub begin : length bs ≤ length l - p .len → Pushed p l bs 0 p l
-  begin le =
-      record {
-        upto = omega arith;
-        fit = omega (arith, fit-len q p (length l) e);
-        holds =
-            holds-same p p l (held p l ++ take 0 bs) (e ∙ sym (in-range q (length l)) ∙ ap (fitted (length l)) (sym e)) (append-nil (held p l));
-      }
-
-  pub end : {r : Queue} {m : List ℕ} {i : ℕ} → Pushed p l bs i r m → length bs ≤ i → Holds q l (appended (length l) (held q l) bs) r m
-  end {r} {m} {i} a le =
-      let n : ℕ = length l in
-      let same : held p l ≡ held q l = ap (λ (y : Queue). held y l) e ∙ held-fitted q l in
-      let head : p .head % n ≡ q .head % n = ap (λ (y : Queue). y .head % n) e ∙ mod-mod (q .head) n in
-      let all : held p l ++ take i bs ≡ appended n (held q l) bs =
-      ap₂ (λ (x y : List ℕ). x ++ y) same (take-all i bs le)
-      ∙ sym (appended-fits n (held q l) bs (omega (arith, a .fit, held-length q l, fit-len q p n e))) in
-      record { queue = a .holds .queue ∙ ap₂ laid head all; ring = a .holds .ring ∙ ap₂ (λ (x : ℕ) (y : List ℕ). stores n l x y) head all }
-
-pub next : {p r s : Queue} {l bs m k : List ℕ} {i : ℕ} → Pushed p l bs i r m → i < length bs
-    → Holds r m (appended (length m) (held r m) (getD bs i 0 ∷ [])) s k → Pushed p l bs (i + 1) s k
-next {p} {r} {s} {l} {bs} {m} {k} {i} a lt h =
-    let c : List ℕ = held p l ++ take i bs in
-    let b : ℕ = getD bs i 0 in
-    let le : length c + 1 ≤ length l = omega (arith, a .fit, length-append (held p l) (take i bs), held-length p l, length-take i bs) in
-    let one : take (i + 1) bs ≡ take i bs ++ (b ∷ []) = rw (add-one) (take-suc bs i 0 lt) in
-    record {
-      upto = omega arith;
-      fit = a .fit;
-      holds =
-          subst (λ (y : List ℕ). Holds p l y s k) (append-assoc (held p l) (take i bs) (b ∷ []) ∙ ap (λ (y : List ℕ). held p l ++ y) (sym one))
-          (more p r s l m k c b le (a .holds) h);
-    }
-
----- take
+use Rattle.queue.proofs.Rings.{lt-or-le}
+use Rattle.queue.proofs.Laws.{held-length, fit-len}
 
 -- after i bytes of c
 pub record Copied (c d : List ℕ) (k i : ℕ) (m : List ℕ) : Type 0 where

@@ -1,7 +1,5 @@
-// Two numbers: the lesser of them, and what one has more than the other.
-// A ring of bytes in a lent slice of any length: where its oldest byte stands, and how many it holds.
-// Any two numbers mean a queue: the head is read modulo the slice's length, the count as at most that length.
-// A run of bytes appended to a queue, or nothing of it; the oldest bytes of a queue taken.
+// A ring of bytes in a lent slice of any length: where its oldest byte stands, and how many it holds. Any two numbers mean a queue: the
+// head is read modulo the slice's length, the count as at most that length. Before it two numbers: the lesser, and a difference.
 ghost use mathlib.Core.Path.{_≡_};
 ghost use Prim.Native.Nat.{_-_, min, _+_, _<_, _%_};
 ghost use mathlib.Core.List.{[], _∷_};
@@ -33,28 +31,34 @@ pub struct Queue {
     pub len: usize,
 }
 
-// x mod n with no division, for x below 2 n
-fn wrap(x: usize, n: usize) -> usize
-    requires { ⌜ x < n + n ⌝ }
-    ensures { λ r. ⌜ r ≡ x % n ⌝ }
-{
-    if x < n {
-        return x;
-    }
-    x - n
+// What is left, and how many bytes were given.
+pub struct Taken {
+    pub queue: Queue,
+    pub count: usize,
 }
 
-// h mod n, and h where n is 0; a division only where h is out of range
-fn home(h: usize, n: usize) -> usize
-    ensures { λ r. ⌜ r ≡ h % n ⌝ }
+// a place modulo n with no division, for one below 2 n
+fn wrap(place: usize, n: usize) -> usize
+    requires { ⌜ place < n + n ⌝ }
+    ensures { λ r. ⌜ r ≡ place % n ⌝ }
 {
-    if h < n {
-        return h;
+    if place < n {
+        return place;
+    }
+    place - n
+}
+
+// a head modulo n, as it is where n is 0; a division only where it is out of range
+fn home(head: usize, n: usize) -> usize
+    ensures { λ r. ⌜ r ≡ head % n ⌝ }
+{
+    if head < n {
+        return head;
     }
     if n == 0 {
-        return h;
+        return head;
     }
-    h % n
+    head % n
 }
 
 impl Queue {
@@ -130,69 +134,46 @@ impl Queue {
         Queue { head: head, len: 0 }
     }
 
-    // the byte at place i, the oldest at 0; 0 behind the newest
-    pub fn at(self, ring: &[u8], i: usize) -> u8
-        ensures { λ r. ⌜ r ≡ getD (held self (before ring)) i 0 ⌝ }
+    // the byte at place k, the oldest at 0; 0 behind the newest
+    pub fn at(self, ring: &[u8], k: usize) -> u8
+        ensures { λ r. ⌜ r ≡ getD (held self (before ring)) k 0 ⌝ }
     {
         let n = ring.len();
         let q = self.fit(n);
-        if i < q.len {
-            let at = wrap(q.head + i, n);
+        if k < q.len {
+            let at = wrap(q.head + k, n);
             return ring[at];
         }
         0
     }
 
-    // place i holds b from now on; behind the newest nothing changes
-    pub fn change(self, ring: &mut [u8], i: usize, b: u8)
-        ensures { λ r. ⌜ after ring ≡ changed self (before ring) i b ⌝ }
+    // place k holds b from now on; behind the newest nothing changes
+    pub fn change(self, ring: &mut [u8], k: usize, b: u8)
+        ensures { λ r. ⌜ after ring ≡ changed self (before ring) k b ⌝ }
     {
         let n = ring.len();
         let q = self.fit(n);
-        if i < q.len {
-            let at = wrap(q.head + i, n);
+        if k < q.len {
+            let at = wrap(q.head + k, n);
             ring[at] = b;
         }
     }
-}
 
-// What is left, and how many bytes were given.
-pub struct Taken {
-    pub queue: Queue,
-    pub count: usize,
-}
-
-// all of the bytes, or none
-pub fn push_all(q: Queue, ring: &mut [u8], bytes: &[u8]) -> Queue
-    ensures { λ r. ⌜ Holds q (before ring) (appended (length (before ring)) (held q (before ring)) (before bytes)) r (after ring) ⌝ }
-{
-    let n = ring.len();
-    let mut r = q.fit(n);
-    if n - r.len < bytes.len() {
-        return r;
-    }
-    let mut i = 0;
-    while i < bytes.len() {
-        r = r.push(ring, bytes[i]);
-        i += 1;
-    }
-    r
-}
-
-// the oldest bytes into dst, as many as it has room for
-pub fn take(q: Queue, ring: &[u8], dst: &mut [u8]) -> Taken
-    ensures { λ r. ⌜ Takes q (before ring) (before dst) r (after dst) ⌝ }
-{
-    let f = q.fit(ring.len());
-    let k = least(f.len, dst.len());
-    let mut i = 0;
-    while i < k {
-        dst[i] = q.at(ring, i);
-        i += 1;
-    }
-    let rest = q.drop_oldest(ring, k);
-    Taken {
-        queue: rest,
-        count: k,
+    // the oldest bytes into dst, as many as it has room for
+    pub fn take(self, ring: &[u8], dst: &mut [u8]) -> Taken
+        ensures { λ r. ⌜ Takes self (before ring) (before dst) r (after dst) ⌝ }
+    {
+        let fitted = self.fit(ring.len());
+        let count = least(fitted.len, dst.len());
+        let mut k = 0;
+        while k < count {
+            dst[k] = self.at(ring, k);
+            k += 1;
+        }
+        let rest = self.drop_oldest(ring, count);
+        Taken {
+            queue: rest,
+            count: count,
+        }
     }
 }

@@ -20,14 +20,14 @@ enum-told c = search needs
 fit-requires : tie.Need-fit-requires
 fit-requires c κs = search needs
 
-enum-known-e : tie.Need-enum-known-e
-enum-known-e c = search needs
+enum-known-expanded : tie.Need-enum-known-expanded
+enum-known-expanded c = search needs
 
 put-byte-requires : tie.Need-put-byte-requires
 put-byte-requires c κs =
-    let at-e = c .before .before .e in
+    let at-expanded = c .before .before .expanded in
     let start = c .before .before .before .before .before in
-    let w : length (expandedBytes (start .args .e)) ≡ 1 = ap (λ (k : Expansion). length (expandedBytes k)) (at-e .given .1) in
+    let w : length (expandedBytes (start .args .expanded)) ≡ 1 = ap (λ (k : Expansion). length (expandedBytes k)) (at-expanded .given .1) in
     omega (arith, start .pre)
 
 enum-told-2 : tie.Need-enum-told-2
@@ -36,7 +36,7 @@ enum-told-2 c = search needs
 put-byte-requires-2 : tie.Need-put-byte-requires-2
 put-byte-requires-2 c κs =
     let start = c .before .before .before .before in
-    let w : length (expandedBytes (start .args .e)) ≡ 2 = ap (λ (k : Expansion). length (expandedBytes k)) (c .before .enum-told2 .given .1) in
+    let w : length (expandedBytes (start .args .expanded)) ≡ 2 = ap (λ (k : Expansion). length (expandedBytes k)) (c .before .enum-told2 .given .1) in
     omega (arith, start .pre)
 
 put-byte-requires-3 : tie.Need-put-byte-requires-3
@@ -46,22 +46,22 @@ put-byte-requires-3 c κs =
     let start = c .before .before .before .before .before .before .before .before in
     let x = start .args .x in
     let l = start .args .out .now in
-    let w : length (expandedBytes (start .args .e)) ≡ 2 = ap (λ (k : Expansion). length (expandedBytes k)) (at-enum-told2 .given .1) in
+    let w : length (expandedBytes (start .args .expanded)) ≡ 2 = ap (λ (k : Expansion). length (expandedBytes k)) (at-enum-told2 .given .1) in
     let n : one .result .queue .len ≡ min (start .args .o .queue .len) (length l) + 1 =
     len-now x (start .args .o) (one .result) l (one .last .1 .1 .0) (13 ∷ []) (one .ensures) in
     let z : length (one .last .1 .1 .0) ≡ length l =
     same-size (start .args .o) (one .result) l (one .last .1 .1 .0) (queued x (get (start .args .o) l) (13 ∷ [])) (one .ensures) in
     omega (arith, start .pre)
 
-enum-known-e-2 : tie.Need-enum-known-e-2
-enum-known-e-2 c = search needs
+enum-known-expanded-2 : tie.Need-enum-known-expanded-2
+enum-known-expanded-2 c = search needs
 
 put-spaces-requires : tie.Need-put-spaces-requires
 put-spaces-requires c κs =
-    let at-e2 = c .before .before .e2 in
+    let at-expanded2 = c .before .before .expanded2 in
     let start = c .before .before .before .before .before in
-    let w : length (expandedBytes (start .args .e)) ≡ at-e2 .given .0 .0 = ap (λ (k : Expansion). length (expandedBytes k)) (at-e2 .given .1)
-    ∙ length-replicate (at-e2 .given .0 .0) 32 in
+    let w : length (expandedBytes (start .args .expanded)) ≡ at-expanded2 .given .0 .0 = ap (λ (k : Expansion). length (expandedBytes k)) (at-expanded2 .given .1)
+    ∙ length-replicate (at-expanded2 .given .0 .0) 32 in
     omega (arith, start .pre)
 
 returns : tie.Need-returns
@@ -76,9 +76,9 @@ same-length c = search needs
 returns-2 : tie.Need-returns-2
 returns-2 c =
     let one = c .before .before .put-byte in
-    let at-e = c .before .before .before .before .before .e in
+    let at-expanded = c .before .before .before .before .before .expanded in
     let start = c .before .before .before .before .before .before .before .before in
-    turns (start .args .x) (start .args .o) (one .result) (start .args .out .now) (one .last .1 .1 .0) (at-e .given .1) (one .ensures)
+    turns (start .args .x) (start .args .o) (one .result) (start .args .out .now) (one .last .1 .1 .0) (at-expanded .given .1) (one .ensures)
 
 same-length-2 : tie.Need-same-length-2
 same-length-2 c = search needs
@@ -91,7 +91,7 @@ returns-3 c =
     let start = c .before .before .before .before .before .before .before .before .before .before .before in
     let x = start .args .x in
     let l = start .args .out .now in
-    let w : length (expandedBytes (start .args .e)) ≡ 2 = ap (λ (k : Expansion). length (expandedBytes k)) (at-enum-told2 .given .1) in
+    let w : length (expandedBytes (start .args .expanded)) ≡ 2 = ap (λ (k : Expansion). length (expandedBytes k)) (at-enum-told2 .given .1) in
     turns x (start .args .o) (two .result) l (two .last .1 .1 .0) (at-enum-told2 .given .1)
     (twice x (start .args .o) (one .result) (two .result) l (one .last .1 .1 .0) (two .last .1 .1 .0) (13 ∷ []) (10 ∷ [])
     (rw get-length (omega (arith, start .pre))) (one .ensures) (two .ensures))
@@ -102,9 +102,9 @@ same-length-3 c = search needs
 returns-4 : tie.Need-returns-4
 returns-4 c =
     let one = c .before .before .put-spaces in
-    let at-e2 = c .before .before .before .before .before .e2 in
+    let at-expanded2 = c .before .before .before .before .before .expanded2 in
     let start = c .before .before .before .before .before .before .before .before in
-    turns (start .args .x) (start .args .o) (one .result) (start .args .out .now) (one .last .1 .1 .0) (at-e2 .given .1) (one .ensures)
+    turns (start .args .x) (start .args .o) (one .result) (start .args .out .now) (one .last .1 .1 .0) (at-expanded2 .given .1) (one .ensures)
 
 pub put-spec : {M : Type 1} → statement M
 put-spec =
@@ -112,12 +112,12 @@ put-spec =
     (tie.spec
     enum-told
     fit-requires
-    enum-known-e
+    enum-known-expanded
     put-byte-requires
     enum-told-2
     put-byte-requires-2
     put-byte-requires-3
-    enum-known-e-2
+    enum-known-expanded-2
     put-spaces-requires
     returns
     same-length

@@ -15,10 +15,10 @@ use Rattle.output.proofs.put_spaces.Statement.{statement}
 use Rattle.output.proofs.put_spaces.Tie as tie
 
 abbrev Inv-loop : tie.InvT-loop
-Inv-loop x out₀ n o₀ i₀ out o i = (i ≤ n) × OutputBecomes o₀ out₀ (queued x (get o₀ out₀) (replicate i 32)) o out
+Inv-loop x out₀ n o₀ k₀ out o k = (k ≤ n) × OutputBecomes o₀ out₀ (queued x (get o₀ out₀) (replicate k 32)) o out
 
 abbrev μ-loop : tie.MeasureT-loop
-μ-loop x out₀ n o₀ i₀ out o i = n - i
+μ-loop x out₀ n o₀ k₀ out o k = n - k
 
 fit-requires : tie.Need-fit-requires Inv-loop μ-loop
 fit-requires c κs = search needs
@@ -36,15 +36,15 @@ put-byte-requires c κs =
     let x = start .args .x in
     let l = start .args .out .now in
     let n : p .result .queue .len ≡ min (start .args .was .queue .len) (length l) = range-len x (start .args .was) (p .result) l (p .ensures) in
-    let k : loop .o .queue .len ≡ min (p .result .queue .len) (length l) + length (replicate {A = ℕ} (loop .i) 32) =
-    len-now x (p .result) (loop .o) l (loop .out) (replicate (loop .i) 32) (loop .inv .1) in
-    let m : length (replicate {A = ℕ} (loop .i) 32) ≡ loop .i = length-replicate (loop .i) 32 in
-    let z : length (loop .out) ≡ length l = same-size (p .result) (loop .o) l (loop .out) (queued x (get (p .result) l) (replicate (loop .i) 32))
+    let k : loop .o .queue .len ≡ min (p .result .queue .len) (length l) + length (replicate {A = ℕ} (loop .k) 32) =
+    len-now x (p .result) (loop .o) l (loop .out) (replicate (loop .k) 32) (loop .inv .1) in
+    let m : length (replicate {A = ℕ} (loop .k) 32) ≡ loop .k = length-replicate (loop .k) 32 in
+    let z : length (loop .out) ≡ length l = same-size (p .result) (loop .o) l (loop .out) (queued x (get (p .result) l) (replicate (loop .k) 32))
     (loop .inv .1) in
     omega (arith, start .pre)
 
-add-i : tie.Need-add-i Inv-loop μ-loop
-add-i c = omega arith
+add-k : tie.Need-add-k Inv-loop μ-loop
+add-k c = omega arith
 
 loop-less : tie.Need-loop-less Inv-loop μ-loop
 loop-less c = omega arith
@@ -58,15 +58,15 @@ loop-again c =
     let x = start .args .x in
     let l = start .args .out .now in
     let n : p .result .queue .len ≡ min (start .args .was .queue .len) (length l) = range-len x (start .args .was) (p .result) l (p .ensures) in
-    let k : loop .o .queue .len ≡ min (p .result .queue .len) (length l) + length (replicate {A = ℕ} (loop .i) 32) =
-    len-now x (p .result) (loop .o) l (loop .out) (replicate (loop .i) 32) (loop .inv .1) in
-    let m : length (replicate {A = ℕ} (loop .i) 32) ≡ loop .i = length-replicate (loop .i) 32 in
-    let z : length (loop .out) ≡ length l = same-size (p .result) (loop .o) l (loop .out) (queued x (get (p .result) l) (replicate (loop .i) 32))
+    let k : loop .o .queue .len ≡ min (p .result .queue .len) (length l) + length (replicate {A = ℕ} (loop .k) 32) =
+    len-now x (p .result) (loop .o) l (loop .out) (replicate (loop .k) 32) (loop .inv .1) in
+    let m : length (replicate {A = ℕ} (loop .k) 32) ≡ loop .k = length-replicate (loop .k) 32 in
+    let z : length (loop .out) ≡ length l = same-size (p .result) (loop .o) l (loop .out) (queued x (get (p .result) l) (replicate (loop .k) 32))
     (loop .inv .1) in
     let one = at-put-byte in (
       omega arith,
       rw replicate-snoc
-          (twice x (p .result) (loop .o) (one .result) l (loop .out) (one .last .1 .1 .0) (replicate (loop .i) 32) (32 ∷ [])
+          (twice x (p .result) (loop .o) (one .result) l (loop .out) (one .last .1 .1 .0) (replicate (loop .k) 32) (32 ∷ [])
           (rw (range-get x (start .args .was) (p .result) l (p .ensures)) (omega (arith, start .pre))) (loop .inv .1) (one .ensures)),
     )
 
@@ -78,10 +78,10 @@ same-length c =
     let x = start .args .x in
     let l = start .args .out .now in
     let n : p .result .queue .len ≡ min (start .args .was .queue .len) (length l) = range-len x (start .args .was) (p .result) l (p .ensures) in
-    let k : loop .o .queue .len ≡ min (p .result .queue .len) (length l) + length (replicate {A = ℕ} (loop .i) 32) =
-    len-now x (p .result) (loop .o) l (loop .out) (replicate (loop .i) 32) (loop .inv .1) in
-    let m : length (replicate {A = ℕ} (loop .i) 32) ≡ loop .i = length-replicate (loop .i) 32 in
-    let z : length (loop .out) ≡ length l = same-size (p .result) (loop .o) l (loop .out) (queued x (get (p .result) l) (replicate (loop .i) 32))
+    let k : loop .o .queue .len ≡ min (p .result .queue .len) (length l) + length (replicate {A = ℕ} (loop .k) 32) =
+    len-now x (p .result) (loop .o) l (loop .out) (replicate (loop .k) 32) (loop .inv .1) in
+    let m : length (replicate {A = ℕ} (loop .k) 32) ≡ loop .k = length-replicate (loop .k) 32 in
+    let z : length (loop .out) ≡ length l = same-size (p .result) (loop .o) l (loop .out) (queued x (get (p .result) l) (replicate (loop .k) 32))
     (loop .inv .1) in
     z
 
@@ -91,7 +91,7 @@ returns c =
     let p = c .before .before .fit in
     let start = c .before .before .before .before in
     let x = start .args .x in
-    let end : loop .i ≡ start .args .n = le-antisymm (loop .inv .0) (c .loop-test .left) in
+    let end : loop .k ≡ start .args .n = le-antisymm (loop .inv .0) (c .loop-test .left) in
     via-range (start .args .was) (p .result) (loop .o) (start .args .out .now) (loop .out) (λ (w : Ruled). queued x w (replicate (start .args .n) 32))
     (p .ensures) (rw end at (loop .inv .1))
 
@@ -104,7 +104,7 @@ put-spaces-spec =
     fit-requires
     loop-holds
     put-byte-requires
-    add-i
+    add-k
     loop-less
     loop-again
     same-length

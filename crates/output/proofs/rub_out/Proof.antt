@@ -15,10 +15,10 @@ use Rattle.output.proofs.rub_out.Statement.{statement}
 use Rattle.output.proofs.rub_out.Tie as tie
 
 abbrev Inv-loop : tie.InvT-loop
-Inv-loop x out₀ n size o₀ i₀ out o i = (i ≤ n) × (o₀ .queue .len + 3 * n ≤ length out₀) × OutputBecomes o₀ out₀ (queued x (get o₀ out₀) (rubout i)) o out
+Inv-loop x out₀ n size o₀ k₀ out o k = (k ≤ n) × (o₀ .queue .len + 3 * n ≤ length out₀) × OutputBecomes o₀ out₀ (queued x (get o₀ out₀) (rubout k)) o out
 
 abbrev μ-loop : tie.MeasureT-loop
-μ-loop x out₀ n size o₀ i₀ out o i = n - i
+μ-loop x out₀ n size o₀ k₀ out o k = n - k
 
 fit-requires : tie.Need-fit-requires Inv-loop μ-loop
 fit-requires c κs = search needs
@@ -57,14 +57,14 @@ rub-one-requires c κs =
     let x = start .args .x in
     let l = start .args .out .now in
     let n : p .result .queue .len ≡ min (start .args .was .queue .len) (length l) = range-len x (start .args .was) (p .result) l (p .ensures) in
-    let k : loop .o .queue .len ≡ min (p .result .queue .len) (length l) + length (rubout (loop .i)) =
-    len-now x (p .result) (loop .o) l (loop .out) (rubout (loop .i)) (loop .inv .2) in
-    let m : length (rubout (loop .i)) ≡ 3 * loop .i = rubout-length (loop .i) in
-    let z : length (loop .out) ≡ length l = same-size (p .result) (loop .o) l (loop .out) (queued x (get (p .result) l) (rubout (loop .i))) (loop .inv .2) in
+    let k : loop .o .queue .len ≡ min (p .result .queue .len) (length l) + length (rubout (loop .k)) =
+    len-now x (p .result) (loop .o) l (loop .out) (rubout (loop .k)) (loop .inv .2) in
+    let m : length (rubout (loop .k)) ≡ 3 * loop .k = rubout-length (loop .k) in
+    let z : length (loop .out) ≡ length l = same-size (p .result) (loop .o) l (loop .out) (queued x (get (p .result) l) (rubout (loop .k))) (loop .inv .2) in
     omega (arith, loop .inv .1)
 
-add-i : tie.Need-add-i Inv-loop μ-loop
-add-i c = omega arith
+add-k : tie.Need-add-k Inv-loop μ-loop
+add-k c = omega arith
 
 loop-less : tie.Need-loop-less Inv-loop μ-loop
 loop-less c = omega arith
@@ -78,15 +78,15 @@ loop-again c =
     let x = start .args .x in
     let l = start .args .out .now in
     let n : p .result .queue .len ≡ min (start .args .was .queue .len) (length l) = range-len x (start .args .was) (p .result) l (p .ensures) in
-    let k : loop .o .queue .len ≡ min (p .result .queue .len) (length l) + length (rubout (loop .i)) =
-    len-now x (p .result) (loop .o) l (loop .out) (rubout (loop .i)) (loop .inv .2) in
-    let m : length (rubout (loop .i)) ≡ 3 * loop .i = rubout-length (loop .i) in
-    let z : length (loop .out) ≡ length l = same-size (p .result) (loop .o) l (loop .out) (queued x (get (p .result) l) (rubout (loop .i))) (loop .inv .2) in
+    let k : loop .o .queue .len ≡ min (p .result .queue .len) (length l) + length (rubout (loop .k)) =
+    len-now x (p .result) (loop .o) l (loop .out) (rubout (loop .k)) (loop .inv .2) in
+    let m : length (rubout (loop .k)) ≡ 3 * loop .k = rubout-length (loop .k) in
+    let z : length (loop .out) ≡ length l = same-size (p .result) (loop .o) l (loop .out) (queued x (get (p .result) l) (rubout (loop .k))) (loop .inv .2) in
     let one = at-rub-one in (
       omega arith,
       loop .inv .1,
       rw rubout-snoc
-          (twice x (p .result) (loop .o) (one .result) l (loop .out) (one .last .1 .1 .0) (rubout (loop .i)) (8 ∷ 32 ∷ 8 ∷ [])
+          (twice x (p .result) (loop .o) (one .result) l (loop .out) (one .last .1 .1 .0) (rubout (loop .k)) (8 ∷ 32 ∷ 8 ∷ [])
           (rw (range-get x (start .args .was) (p .result) l (p .ensures)) (omega (arith, loop .inv .1))) (loop .inv .2) (one .ensures)),
     )
 
@@ -98,10 +98,10 @@ same-length c =
     let x = start .args .x in
     let l = start .args .out .now in
     let n : p .result .queue .len ≡ min (start .args .was .queue .len) (length l) = range-len x (start .args .was) (p .result) l (p .ensures) in
-    let k : loop .o .queue .len ≡ min (p .result .queue .len) (length l) + length (rubout (loop .i)) =
-    len-now x (p .result) (loop .o) l (loop .out) (rubout (loop .i)) (loop .inv .2) in
-    let m : length (rubout (loop .i)) ≡ 3 * loop .i = rubout-length (loop .i) in
-    let z : length (loop .out) ≡ length l = same-size (p .result) (loop .o) l (loop .out) (queued x (get (p .result) l) (rubout (loop .i))) (loop .inv .2) in
+    let k : loop .o .queue .len ≡ min (p .result .queue .len) (length l) + length (rubout (loop .k)) =
+    len-now x (p .result) (loop .o) l (loop .out) (rubout (loop .k)) (loop .inv .2) in
+    let m : length (rubout (loop .k)) ≡ 3 * loop .k = rubout-length (loop .k) in
+    let z : length (loop .out) ≡ length l = same-size (p .result) (loop .o) l (loop .out) (queued x (get (p .result) l) (rubout (loop .k))) (loop .inv .2) in
     z
 
 returns-2 : tie.Need-returns-2 Inv-loop μ-loop
@@ -112,11 +112,11 @@ returns-2 c =
     let x = start .args .x in
     let l = start .args .out .now in
     let n : p .result .queue .len ≡ min (start .args .was .queue .len) (length l) = range-len x (start .args .was) (p .result) l (p .ensures) in
-    let k : loop .o .queue .len ≡ min (p .result .queue .len) (length l) + length (rubout (loop .i)) =
-    len-now x (p .result) (loop .o) l (loop .out) (rubout (loop .i)) (loop .inv .2) in
-    let m : length (rubout (loop .i)) ≡ 3 * loop .i = rubout-length (loop .i) in
-    let z : length (loop .out) ≡ length l = same-size (p .result) (loop .o) l (loop .out) (queued x (get (p .result) l) (rubout (loop .i))) (loop .inv .2) in
-    let end : loop .i ≡ start .args .n = le-antisymm (loop .inv .0) (c .loop-test .left) in
+    let k : loop .o .queue .len ≡ min (p .result .queue .len) (length l) + length (rubout (loop .k)) =
+    len-now x (p .result) (loop .o) l (loop .out) (rubout (loop .k)) (loop .inv .2) in
+    let m : length (rubout (loop .k)) ≡ 3 * loop .k = rubout-length (loop .k) in
+    let z : length (loop .out) ≡ length l = same-size (p .result) (loop .o) l (loop .out) (queued x (get (p .result) l) (rubout (loop .k))) (loop .inv .2) in
+    let end : loop .k ≡ start .args .n = le-antisymm (loop .inv .0) (c .loop-test .left) in
     let b : OutputBecomes (p .result) l (queued x (get (p .result) l) (rubout (start .args .n))) (loop .o) (loop .out) = rw end at (loop .inv .2) in
     rw (rubout-plain x (start .args .was .column) (start .args .n))
     (fits-of x (start .args .was) (p .result) l (p .ensures) (loop .o) (loop .out) (rubout (start .args .n))
@@ -133,7 +133,7 @@ rub-out-spec =
     returns
     loop-holds
     rub-one-requires
-    add-i
+    add-k
     loop-less
     loop-again
     same-length

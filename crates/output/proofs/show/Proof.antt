@@ -11,10 +11,10 @@ use Rattle.output.proofs.show.Statement.{statement}
 use Rattle.output.proofs.show.Tie as tie
 
 abbrev Inv-loop : tie.InvT-loop
-Inv-loop self x out bytes n m₀ i₀ m i = Measuring x self n bytes i m
+Inv-loop self x out bytes n m₀ k₀ m k = Measuring x self n bytes k m
 
 abbrev μ-loop : tie.MeasureT-loop
-μ-loop self x out bytes n m₀ i₀ m i = length bytes - i
+μ-loop self x out bytes n m₀ k₀ m k = length bytes - k
 
 measure-requires : tie.Need-measure-requires Inv-loop μ-loop
 measure-requires c κs = search needs
@@ -28,8 +28,8 @@ shared-slice-read-and c = omega arith
 and-requires : tie.Need-and-requires Inv-loop μ-loop
 and-requires c κs = search needs
 
-add-i : tie.Need-add-i Inv-loop μ-loop
-add-i c = omega arith
+add-k : tie.Need-add-k Inv-loop μ-loop
+add-k c = omega arith
 
 loop-less : tie.Need-loop-less Inv-loop μ-loop
 loop-less c = omega arith
@@ -39,7 +39,7 @@ loop-again c =
     let at-loop-test = c .before .before .loop-test in
     let at-loop = c .before .before .before .loop in
     let start = c .before .before .before .before .before .before .before in
-    measuring-next (start .args .x) (start .args .was) (length (start .args .out .now)) (start .args .bytes .now) (at-loop .i) (at-loop .m) (c .and .result)
+    measuring-next (start .args .x) (start .args .was) (length (start .args .out .now)) (start .args .bytes .now) (at-loop .k) (at-loop .measure) (c .and .result)
     (at-loop .inv) (at-loop-test .taken) (c .and .ensures)
 
 write-requires : tie.Need-write-requires Inv-loop μ-loop
@@ -62,7 +62,7 @@ returns c =
     let at-loop-test = c .before .before .before .before .before .before .loop-test in
     let loop = c .before .before .before .before .before .before .before .loop in
     let start = c .before .before .before .before .before .before .before .before .before .before .before in
-    shows (start .args .x) (start .args .was) (start .args .out .now) (start .args .bytes .now) (loop .i) (loop .m) (loop .inv) (at-loop-test .left)
+    shows (start .args .x) (start .args .was) (start .args .out .now) (start .args .bytes .now) (loop .k) (loop .measure) (loop .inv) (at-loop-test .left)
     (at-if1 .taken) (w .result) (w .last .1 .1 .0) (w .ensures)
 
 fit-requires : tie.Need-fit-requires Inv-loop μ-loop
@@ -73,7 +73,7 @@ returns-2 c =
     let at-loop-test = c .before .before .loop-test in
     let loop = c .before .before .before .loop in
     let start = c .before .before .before .before .before .before .before in
-    shows-nothing (start .args .x) (start .args .was) (start .args .out .now) (start .args .bytes .now) (loop .i) (loop .m) (loop .inv) (at-loop-test .left)
+    shows-nothing (start .args .x) (start .args .was) (start .args .out .now) (start .args .bytes .now) (loop .k) (loop .measure) (loop .inv) (at-loop-test .left)
     (c .before .if1 .left) (c .fit .result) (c .fit .ensures)
 
 pub show-spec : {M : Type 1} → statement M
@@ -86,7 +86,7 @@ show-spec =
     loop-holds
     shared-slice-read-and
     and-requires
-    add-i
+    add-k
     loop-less
     loop-again
     write-requires

@@ -13,10 +13,10 @@ use Rattle.output.proofs.write.Statement.{statement}
 use Rattle.output.proofs.write.Tie as tie
 
 abbrev Inv-loop : tie.InvT-loop
-Inv-loop x out₀ src n o₀ i₀ out o i = SoFar x o₀ out₀ src i o out
+Inv-loop x out₀ src n o₀ k₀ out o k = SoFar x o₀ out₀ src k o out
 
 abbrev μ-loop : tie.MeasureT-loop
-μ-loop x out₀ src n o₀ i₀ out o i = length src - i
+μ-loop x out₀ src n o₀ k₀ out o k = length src - k
 
 fit-requires : tie.Need-fit-requires Inv-loop μ-loop
 fit-requires c κs = search needs
@@ -46,7 +46,7 @@ same-length c =
     let x = start .args .x in
     let l = start .args .out .now in
     let src = start .args .src .now in
-    same-size (p .result) (loop .o) l (loop .out) (written x (get (p .result) l) (take (loop .i) src)) (loop .inv .output)
+    same-size (p .result) (loop .o) l (loop .out) (written x (get (p .result) l) (take (loop .k) src)) (loop .inv .output)
 
 returns : tie.Need-returns Inv-loop μ-loop
 returns c =
@@ -59,8 +59,8 @@ returns c =
     let x = start .args .x in
     let l = start .args .out .now in
     let src = start .args .src .now in
-    wrote x (start .args .was) (p .result) l src (loop .i) (loop .o) (loop .out) (p .ensures) (loop .inv)
-    (full x (p .result) l src (loop .i) (loop .o) (loop .out) (expandedBytes (e .result)) (loop .inv) (at-loop-test .taken) (e .ensures)
+    wrote x (start .args .was) (p .result) l src (loop .k) (loop .o) (loop .out) (p .ensures) (loop .inv)
+    (full x (p .result) l src (loop .k) (loop .o) (loop .out) (expandedBytes (e .result)) (loop .inv) (at-loop-test .taken) (e .ensures)
     (omega (arith, c .if1 .taken, at-width .ensures, loop .inv .fits)))
 
 put-requires : tie.Need-put-requires Inv-loop μ-loop
@@ -72,12 +72,12 @@ put-requires c κs =
     let x = start .args .x in
     let l = start .args .out .now in
     let src = start .args .src .now in
-    let z : length (loop .out) ≡ length l = same-size (p .result) (loop .o) l (loop .out) (written x (get (p .result) l) (take (loop .i) src))
+    let z : length (loop .out) ≡ length l = same-size (p .result) (loop .o) l (loop .out) (written x (get (p .result) l) (take (loop .k) src))
     (loop .inv .output) in
     omega (arith, c .before .if1 .left, at-width .ensures, loop .inv .fits)
 
-add-i : tie.Need-add-i Inv-loop μ-loop
-add-i c = omega arith
+add-k : tie.Need-add-k Inv-loop μ-loop
+add-k c = omega arith
 
 loop-less : tie.Need-loop-less Inv-loop μ-loop
 loop-less c = omega arith
@@ -96,7 +96,7 @@ loop-again c =
     let x = start .args .x in
     let l = start .args .out .now in
     let src = start .args .src .now in
-    next x (p .result) l src (loop .i) (loop .o) (loop .out) (expandedBytes (e .result)) (loop .inv) (at-loop-test .taken) (e .ensures) (one .result)
+    next x (p .result) l src (loop .k) (loop .o) (loop .out) (expandedBytes (e .result)) (loop .inv) (at-loop-test .taken) (e .ensures) (one .result)
     (one .last .1 .1 .0)
     (omega (arith, at-if1 .left, at-width .ensures, loop .inv .fits)) (one .ensures)
 
@@ -108,7 +108,7 @@ same-length-2 c =
     let x = start .args .x in
     let l = start .args .out .now in
     let src = start .args .src .now in
-    same-size (p .result) (loop .o) l (loop .out) (written x (get (p .result) l) (take (loop .i) src)) (loop .inv .output)
+    same-size (p .result) (loop .o) l (loop .out) (written x (get (p .result) l) (take (loop .k) src)) (loop .inv .output)
 
 returns-2 : tie.Need-returns-2 Inv-loop μ-loop
 returns-2 c =
@@ -118,8 +118,8 @@ returns-2 c =
     let x = start .args .x in
     let l = start .args .out .now in
     let src = start .args .src .now in
-    wrote x (start .args .was) (p .result) l src (loop .i) (loop .o) (loop .out) (p .ensures) (loop .inv)
-    (done x (p .result) l src (loop .i) (loop .o) (loop .out) (loop .inv) (c .loop-test .left))
+    wrote x (start .args .was) (p .result) l src (loop .k) (loop .o) (loop .out) (p .ensures) (loop .inv)
+    (done x (p .result) l src (loop .k) (loop .o) (loop .out) (loop .inv) (c .loop-test .left))
 
 pub write-spec : {M : Type 1} → statement M
 write-spec =
@@ -136,7 +136,7 @@ write-spec =
     same-length
     returns
     put-requires
-    add-i
+    add-k
     loop-less
     loop-again
     same-length-2

@@ -10,7 +10,7 @@ returns : tie.Need-returns
 returns c = sym (mod-eq-of-lt (c .if1 .taken))
 
 returns-2 : tie.Need-returns-2
-returns-2 c = sym (ap (λ (n : ℕ). c .before .before .args .h % n) (c .if2 .taken) ∙ mod-zero (c .before .before .args .h))
+returns-2 c = sym (ap (λ (n : ℕ). c .before .before .args .head % n) (c .if2 .taken) ∙ mod-zero (c .before .before .args .head))
 
 rem-result : tie.Need-rem-result
 rem-result c = search needs

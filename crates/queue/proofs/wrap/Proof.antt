@@ -11,7 +11,7 @@ returns c = sym (mod-eq-of-lt (c .if1 .taken))
 
 returns-2 : tie.Need-returns-2
 returns-2 c =
-    let lt : c .before .args .x - c .before .args .n < c .before .args .n = omega arith in
+    let lt : c .before .args .place - c .before .args .n < c .before .args .n = omega arith in
     sym (mod-eq-sub-mod (c .if1 .left) ∙ mod-eq-of-lt lt)
 
 pub wrap-spec : {M : Type 1} → statement M

@@ -11,8 +11,8 @@ use Rattle.output.proofs.columns.column_after.Tie as tie
 enum-told : tie.Need-enum-told
 enum-told c = search needs
 
-enum-known-e : tie.Need-enum-known-e
-enum-known-e c = search needs
+enum-known-expanded : tie.Need-enum-known-expanded
+enum-known-expanded c = search needs
 
 next-column-requires : tie.Need-next-column-requires
 next-column-requires c κs = search needs
@@ -26,8 +26,8 @@ next-column-requires-2 c κs = search needs
 next-column-requires-3 : tie.Need-next-column-requires-3
 next-column-requires-3 c κs = search needs
 
-enum-known-e-2 : tie.Need-enum-known-e-2
-enum-known-e-2 c = search needs
+enum-known-expanded-2 : tie.Need-enum-known-expanded-2
+enum-known-expanded-2 c = search needs
 
 column-after-spaces-requires : tie.Need-column-after-spaces-requires
 column-after-spaces-requires c κs = search needs
@@ -37,9 +37,9 @@ returns c = sym (ap (λ (k : Expansion). columnsAfter (c .before .before .args .
 
 returns-2 : tie.Need-returns-2
 returns-2 c =
-    let at-e = c .before .before .e in
+    let at-expanded = c .before .before .expanded in
     let start = c .before .before .before .before in
-    c .next-column .ensures ∙ sym (ap (λ (k : Expansion). columnsAfter (start .args .x) (start .args .c) (expandedBytes k)) (at-e .given .1))
+    c .next-column .ensures ∙ sym (ap (λ (k : Expansion). columnsAfter (start .args .x) (start .args .c) (expandedBytes k)) (at-expanded .given .1))
 
 returns-3 : tie.Need-returns-3
 returns-3 c =
@@ -50,21 +50,21 @@ returns-3 c =
 
 returns-4 : tie.Need-returns-4
 returns-4 c =
-    let at-e2 = c .before .before .e2 in
+    let at-expanded2 = c .before .before .expanded2 in
     let start = c .before .before .before .before in
-    c .column-after-spaces .ensures ∙ sym (ap (λ (k : Expansion). columnsAfter (start .args .x) (start .args .c) (expandedBytes k)) (at-e2 .given .1))
+    c .column-after-spaces .ensures ∙ sym (ap (λ (k : Expansion). columnsAfter (start .args .x) (start .args .c) (expandedBytes k)) (at-expanded2 .given .1))
 
 pub column-after-spec : {M : Type 1} → statement M
 column-after-spec =
     tie.close
     (tie.spec
     enum-told
-    enum-known-e
+    enum-known-expanded
     next-column-requires
     enum-told-2
     next-column-requires-2
     next-column-requires-3
-    enum-known-e-2
+    enum-known-expanded-2
     column-after-spaces-requires
     returns
     returns-2

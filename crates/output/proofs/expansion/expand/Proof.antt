@@ -14,8 +14,8 @@ returns-2 : tie.Need-returns-2
 unfolding expand
 returns-2 c = simp (c .before .before .if1 .taken, eq-eqb _ _ (c .before .if2 .taken), c .if3 .left)
 
-cast-m : tie.Need-cast-m
-cast-m c = search needs
+cast-past : tie.Need-cast-past
+cast-past c = search needs
 
 sub-t10 : tie.Need-sub-t10
 sub-t10 c = search needs
@@ -73,7 +73,7 @@ expand-spec =
     (tie.spec
     returns
     returns-2
-    cast-m
+    cast-past
     sub-t10
     returns-3
     returns-4

@@ -16,8 +16,8 @@ enum-told-2 c = search needs
 enum-told-3 : tie.Need-enum-told-3
 enum-told-3 c = search needs
 
-enum-known-e : tie.Need-enum-known-e
-enum-known-e c = search needs
+enum-known-expanded : tie.Need-enum-known-expanded
+enum-known-expanded c = search needs
 
 returns : tie.Need-returns
 returns c = search needs
@@ -29,9 +29,9 @@ returns-3 : tie.Need-returns-3
 returns-3 c = search needs
 
 returns-4 : tie.Need-returns-4
-returns-4 c = sym (ap (λ (k : Expansion). length (expandedBytes k)) (c .before .e .given .1) ∙ length-replicate (c .before .e .given .0 .0) 32)
+returns-4 c = sym (ap (λ (k : Expansion). length (expandedBytes k)) (c .before .expanded .given .1) ∙ length-replicate (c .before .expanded .given .0 .0) 32)
 
 pub width-spec : {M : Type 1} → statement M
 width-spec =
     tie.close
-    (tie.spec enum-told enum-told-2 enum-told-3 enum-known-e returns returns-2 returns-3 returns-4)
+    (tie.spec enum-told enum-told-2 enum-told-3 enum-known-expanded returns returns-2 returns-3 returns-4)

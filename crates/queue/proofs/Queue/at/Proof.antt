@@ -38,7 +38,7 @@ shared-slice-read-result c =
     let n : ℕ = length (start .args .ring .now) in
     let p = c .before .before .before .before .before .fit in
     let k : p .result .len ≡ min (q .len) n = fit-len q (p .result) n (p .ensures) in
-    place-lt (p .result .head + start .args .i) (c .before .wrap .result) n (c .before .wrap .ensures) (omega arith)
+    place-lt (p .result .head + start .args .k) (c .before .wrap .result) n (c .before .wrap .ensures) (omega arith)
 
 returns : tie.Need-returns
 returns c =
@@ -47,13 +47,13 @@ returns c =
     let l = start .args .ring .now in
     let p = c .before .before .before .before .before .fit in
     let k : p .result .len ≡ min (q .len) (length l) = fit-len q (p .result) (length l) (p .ensures) in
-    at-in q l (start .args .i) (c .before .wrap .result) (omega arith) (rw (fit-head q (p .result) (length l) (p .ensures)) at (c .before .wrap .ensures))
+    at-in q l (start .args .k) (c .before .wrap .result) (omega arith) (rw (fit-head q (p .result) (length l) (p .ensures)) at (c .before .wrap .ensures))
 
 returns-2 : tie.Need-returns-2
 returns-2 c =
     let p = c .before .before .fit in
     let start = c .before .before .before .before in
-    at-out (start .args .self) (start .args .ring .now) (start .args .i)
+    at-out (start .args .self) (start .args .ring .now) (start .args .k)
     (omega (arith, fit-len (start .args .self) (p .result) (length (start .args .ring .now)) (p .ensures)))
 
 pub at-spec : {M : Type 1} → statement M

@@ -38,7 +38,7 @@ slice-write-ring c =
     let n : ℕ = length (start .args .ring .now) in
     let p = c .before .before .before .before .fit in
     let k : p .result .len ≡ min (q .len) n = fit-len q (p .result) n (p .ensures) in
-    place-lt (p .result .head + start .args .i) (c .wrap .result) n (c .wrap .ensures) (omega arith)
+    place-lt (p .result .head + start .args .k) (c .wrap .result) n (c .wrap .ensures) (omega arith)
 
 same-length : tie.Need-same-length
 same-length c = search needs
@@ -50,14 +50,14 @@ returns c =
     let q = start .args .self in
     let l = start .args .ring .now in
     let k : p .result .len ≡ min (q .len) (length l) = fit-len q (p .result) (length l) (p .ensures) in
-    changed-in q l (start .args .i) (start .args .b) (c .wrap .result) (omega arith)
+    changed-in q l (start .args .k) (start .args .b) (c .wrap .result) (omega arith)
     (rw (fit-head q (p .result) (length l) (p .ensures)) at (c .wrap .ensures))
 
 returns-2 : tie.Need-returns-2
 returns-2 c =
     let p = c .before .before .fit in
     let start = c .before .before .before .before in
-    changed-out (start .args .self) (start .args .ring .now) (start .args .i) (start .args .b)
+    changed-out (start .args .self) (start .args .ring .now) (start .args .k) (start .args .b)
     (omega (arith, fit-len (start .args .self) (p .result) (length (start .args .ring .now)) (p .ensures)))
 
 pub change-spec : {M : Type 1} → statement M

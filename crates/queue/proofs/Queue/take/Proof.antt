@@ -1,17 +1,17 @@
--- `queue::take` meets its contract: after i turns the first i bytes held stand in dst. Assumes nothing.
+-- `queue::Queue::take` meets its contract: after k turns the first k bytes held stand in dst. Assumes nothing.
 use Prim.Native.Nat.{_-_}
 use native.Mathlib.Omega.{arith}
 use borrow.Author.Needs.{needs}
 use Rattle.queue.specs.Queue.{held}
 use Rattle.queue.proofs.Taking.{Copied, as-wide, copy-begin, copy-next, taken}
-use Rattle.queue.proofs.take.Statement.{statement}
-use Rattle.queue.proofs.take.Tie as tie
+use Rattle.queue.proofs.Queue.take.Statement.{statement}
+use Rattle.queue.proofs.Queue.take.Tie as tie
 
 abbrev Inv-loop : tie.InvT-loop
-Inv-loop q ring dst₀ k i₀ dst i = Copied (held q ring) dst₀ k i dst
+Inv-loop self ring dst₀ count k₀ dst k = Copied (held self ring) dst₀ count k dst
 
 abbrev μ-loop : tie.MeasureT-loop
-μ-loop q ring dst₀ k i₀ dst i = k - i
+μ-loop self ring dst₀ count k₀ dst k = count - k
 
 fit-requires : tie.Need-fit-requires Inv-loop μ-loop
 fit-requires c κs = search needs
@@ -23,7 +23,7 @@ loop-holds : tie.Need-loop-holds Inv-loop μ-loop
 loop-holds c =
     let s = c .before .before .before .before in
     let f = c .before .fit in
-    copy-begin (s .args .q) (f .result) (s .args .q) (s .args .ring .now) (s .args .dst .now) (c .least .result) (f .ensures) (c .least .ensures)
+    copy-begin (s .args .self) (f .result) (s .args .self) (s .args .ring .now) (s .args .dst .now) (c .least .result) (f .ensures) (c .least .ensures)
 
 at-requires : tie.Need-at-requires Inv-loop μ-loop
 at-requires c κs = search needs
@@ -31,8 +31,8 @@ at-requires c κs = search needs
 slice-write-dst : tie.Need-slice-write-dst Inv-loop μ-loop
 slice-write-dst c = omega (arith, as-wide (c .before .before .loop .inv), c .before .before .loop .inv .room, c .before .loop-test .taken)
 
-add-i : tie.Need-add-i Inv-loop μ-loop
-add-i c = omega arith
+add-k : tie.Need-add-k Inv-loop μ-loop
+add-k c = omega arith
 
 loop-less : tie.Need-loop-less Inv-loop μ-loop
 loop-less c = omega arith
@@ -52,7 +52,7 @@ returns c =
     let k = c .before .before .before .least in
     let f = c .before .before .before .before .fit in
     let s = c .before .before .before .before .before .before .before in
-    taken (s .args .q) (f .result) (c .drop-oldest .result) (s .args .ring .now) (s .args .dst .now) (k .result) (f .ensures) (k .ensures) (at-loop .inv)
+    taken (s .args .self) (f .result) (c .drop-oldest .result) (s .args .ring .now) (s .args .dst .now) (k .result) (f .ensures) (k .ensures) (at-loop .inv)
     (c .before .loop-test .left)
     (c .drop-oldest .ensures)
 
@@ -67,7 +67,7 @@ take-spec =
     loop-holds
     at-requires
     slice-write-dst
-    add-i
+    add-k
     loop-less
     loop-again
     drop-oldest-requires
