@@ -1,5 +1,4 @@
-// Document 01, 'Echo': what a byte shows, in a caret pair or as itself.
-// Document 01, 'Echo': what is shown when a byte is stored, and when ERASE, WERASE and KILL edit.
+// Document 01, 'Echo': what a byte shows, as itself or in a caret pair; what is shown when it is stored, and when ERASE, WERASE and KILL edit.
 ghost use mathlib.Core.Path.{_≡_};
 ghost use mathlib.Core.List.{[], _∷_, _++_};
 ghost use Rattle.rules.specs.Lent.{before, after};
@@ -11,6 +10,8 @@ ghost use Rattle.rules.specs.Echo as echo;
 use output::Output;
 use output::columns::Measure;
 use rules::Settings;
+
+const CARET: u8 = 94;
 
 // What a byte shows: as itself, or as a caret pair.
 pub struct Seen {
@@ -62,41 +63,41 @@ pub fn visible(x: Settings, b: u8) -> Seen
 pub fn show(o: Output, x: Settings, out: &mut [u8], b: u8) -> Output
     ensures { λ r. ⌜ Echoes x o (before out) (echo.visible x b) r (after out) ⌝ }
 {
-    let v = visible(x, b);
-    let c = v.byte;
-    if v.pair {
-        let e = [94u8, c];
-        return output::show(o, x, out, &e);
+    let seen = visible(x, b);
+    let last = seen.byte;
+    if seen.pair {
+        let bytes = [CARET, last];
+        return output::show(o, x, out, &bytes);
     }
-    let e = [c];
-    output::show(o, x, out, &e)
+    let bytes = [last];
+    output::show(o, x, out, &bytes)
 }
 
 // and 10 behind it
 pub fn show_line(o: Output, x: Settings, out: &mut [u8], b: u8) -> Output
     ensures { λ r. ⌜ Echoes x o (before out) (echo.visible x b ++ (10 ∷ [])) r (after out) ⌝ }
 {
-    let v = visible(x, b);
-    let c = v.byte;
-    if v.pair {
-        let e = [94u8, c, 10];
-        return output::show(o, x, out, &e);
+    let seen = visible(x, b);
+    let last = seen.byte;
+    if seen.pair {
+        let bytes = [CARET, last, 10];
+        return output::show(o, x, out, &bytes);
     }
-    let e = [c, 10];
-    output::show(o, x, out, &e)
+    let bytes = [last, 10];
+    output::show(o, x, out, &bytes)
 }
 
 // the byte as it is visible, behind what is measured
-pub fn measured(m: Measure, x: Settings, b: u8) -> Measure
-    ensures { λ r. ⌜ ExtendsBy x m (echo.visible x b) r ⌝ }
+pub fn measured(measure: Measure, x: Settings, b: u8) -> Measure
+    ensures { λ r. ⌜ ExtendsBy x measure (echo.visible x b) r ⌝ }
 {
-    let v = visible(x, b);
-    let c = v.byte;
-    if v.pair {
-        let first = m.and(x, 94);
-        return first.and(x, c);
+    let seen = visible(x, b);
+    let last = seen.byte;
+    if seen.pair {
+        let first = measure.and(x, CARET);
+        return first.and(x, last);
     }
-    m.and(x, c)
+    measure.and(x, last)
 }
 
 // 'ECHO clear: nothing is shown'
@@ -117,8 +118,8 @@ pub fn of_stored(o: Output, x: Settings, out: &mut [u8], b: u8) -> Output
         return show(o, x, out, b);
     }
     if shows_newline(x, b) {
-        let e = [10u8];
-        return output::show(o, x, out, &e);
+        let bytes = [10u8];
+        return output::show(o, x, out, &bytes);
     }
     o.fit(out.len())
 }

@@ -10,7 +10,7 @@ use Rattle.queue.specs.Ring.{stores}
 use Rattle.queue.specs.Queue.{held, fitted as queueFitted}
 use Rattle.rules.specs.Sizes.{Place, Input as Ruled, used, unit}
 use Rattle.rules.specs.Settings.{stored}
-use Rattle.rules.specs.Fit.{endFits, unitFits}
+use Rattle.rules.specs.Fit.{endFits, unitFits, keptIn}
 use Rattle.input.specs.declared.Input.{Input}
 use Rattle.input.specs.declared.Unit.{Unit}
 use Rattle.input.specs.declared.Unit.the-variants.{Plain, Doubled, Zero, Broken}
@@ -136,3 +136,11 @@ unitOf (Plain b) = unit false b []
 unitOf Doubled = unit false 255 (255 ∷ [])
 unitOf Zero = unit true 0 []
 unitOf (Broken b) = unit true 255 (0 ∷ b ∷ [])
+
+-- A unit is stored whole, under ICANON or not.
+abbrev pub Stores : Bool → List Place → Input → List ℕ → List ℕ → Input → List ℕ → List ℕ → Type 0
+Stores canonical u i bs ms r bs′ ms′ = InputBecomes i bs ms (keptIn canonical (get i bs ms) u) r bs′ ms′
+
+-- The current line ends with the place p.
+abbrev pub Ends : Place → Input → List ℕ → List ℕ → Input → List ℕ → List ℕ → Type 0
+Ends p i bs ms r bs′ ms′ = InputBecomes i bs ms (endedIn (get i bs ms) p) r bs′ ms′

@@ -1,5 +1,4 @@
-// Document 01, 'Settings': ICANON goes off.
-// Document 01, 'Settings': ICANON goes on.
+// Document 01, 'Settings': what becomes of the stored input when ICANON goes off, and when it goes on.
 ghost use Rattle.rules.specs.Lent.{before, after};
 ghost use Rattle.input.specs.Contract.{Sound, Within};
 ghost use Rattle.input.specs.canonical.Contract.{GoesOff, GoesOn, inLine};
@@ -47,15 +46,11 @@ pub fn one_line(i: Input, marks: &mut [u8]) -> Input
     let mut k = 0;
     while k < len {
         let m = q.at(marks, k);
-        let b = in_line(m, k + 1 == len);
-        q.change(marks, k, b);
+        let joined = in_line(m, k + 1 == len);
+        q.change(marks, k, joined);
         k += 1;
     }
-    Input {
-        queue: q,
-        ready: len,
-        literal: i.literal,
-    }
+    Input { ready: len, ..i }
 }
 
 // the mark byte of a place of one line, its last or another

@@ -1,7 +1,5 @@
-// The mark byte of a place of the stored input, bit by bit; further bits mean nothing.
-// Document 01, stored input: what is held, flushing, cutting. A place has its byte in one lent slice and its mark in
-// another of the same length. The first `ready` places are finished lines, the rest is the current line.
-// Document 01, stored input: one place more; all places finished.
+// Document 01, stored input: what is held, flushing, cutting. A place has its byte in one lent slice and its mark in another of the same
+// length. The first `ready` places are finished lines, the rest is the current line.
 pub mod canonical;
 pub mod reading;
 pub mod units;
@@ -16,38 +14,43 @@ ghost use Rattle.queue.specs.Queue.{laid};
 ghost use Rattle.input.specs.Contract.{put, Within, fitted, shortened, emptied, Room, Grows};
 use queue::Queue;
 
-// a unit starts with its place
+pub struct Input {
+    pub queue: Queue,
+    pub ready: usize,
+    pub literal: bool,
+}
+
+// The mark byte of a place, bit by bit; further bits mean nothing.
+pub(crate) const STARTS: u8 = 1; // a unit starts with its place
+
+pub(crate) const ENDS: u8 = 2; // a line ends with it
+
+pub(crate) const END_OF_FILE: u8 = 4; // it is an end-of-file mark
+
+pub(crate) const SILENT: u8 = 8; // its unit had no echo
+
 pub fn starts(m: u8) -> bool
     ensures { λ r. ⌜ r ≡ eqb (m % 2) 1 ⌝ }
 {
     m % 2 == 1
 }
 
-// a line ends with its place
-pub fn ends(m: u8) -> bool
+pub(crate) fn ends(m: u8) -> bool
     ensures { λ r. ⌜ r ≡ eqb (m / 2 % 2) 1 ⌝ }
 {
-    m / 2 % 2 == 1
+    m / ENDS % 2 == 1
 }
 
-// its place is an end-of-file mark
-pub fn is_mark(m: u8) -> bool
+pub(crate) fn is_mark(m: u8) -> bool
     ensures { λ r. ⌜ r ≡ eqb (m / 4 % 2) 1 ⌝ }
 {
-    m / 4 % 2 == 1
+    m / END_OF_FILE % 2 == 1
 }
 
-// the unit of its place had no echo
 pub fn silent(m: u8) -> bool
     ensures { λ r. ⌜ r ≡ eqb (m / 8 % 2) 1 ⌝ }
 {
-    m / 8 % 2 == 1
-}
-
-pub struct Input {
-    pub queue: Queue,
-    pub ready: usize,
-    pub literal: bool,
+    m / SILENT % 2 == 1
 }
 
 // What one event stores: a good byte; a 255 that is doubled; a break or a broken byte as 0, or as 255,0 and the byte.
@@ -80,18 +83,16 @@ impl Input {
         Input {
             queue: queue,
             ready: ready,
-            literal: self.literal,
+            ..self
         }
     }
 
     pub fn with_literal(self, literal: bool) -> Input
         ensures { λ r. ⌜ r ≡ record { queue = self .queue; ready = self .ready; literal = literal } ⌝ }
     {
-        let queue = self.queue;
         Input {
-            queue: queue,
-            ready: self.ready,
             literal: literal,
+            ..self
         }
     }
 
@@ -104,8 +105,7 @@ impl Input {
         let empty = Input::fresh();
         Input {
             queue: queue,
-            ready: empty.ready,
-            literal: empty.literal,
+            ..empty
         }
     }
 
@@ -119,35 +119,26 @@ impl Input {
         let queue = q.drop_newest(n, gone);
         Input {
             queue: queue,
-            ready: self.ready,
-            literal: self.literal,
+            ..self
         }
     }
 }
 
 // one place more, at the end of the current line
-pub fn add(i: Input, bytes: &mut [u8], marks: &mut [u8], b: u8, m: u8) -> Input
+pub(crate) fn add(i: Input, bytes: &mut [u8], marks: &mut [u8], b: u8, m: u8) -> Input
     requires { ⌜ Room i (now bytes) (now marks) 1 ⌝ }
     ensures { λ r. ⌜ Grows i (before bytes) (before marks) (b ∷ []) (m ∷ []) r (after bytes) (after marks) ⌝ }
 {
     let q = i.queue;
     let queue = q.push(bytes, b);
     q.push(marks, m);
-    Input {
-        queue: queue,
-        ready: i.ready,
-        literal: i.literal,
-    }
+    Input { queue: queue, ..i }
 }
 
 // all places are finished
-pub fn all_ready(i: Input) -> Input
+pub(crate) fn all_ready(i: Input) -> Input
     ensures { λ r. ⌜ r ≡ record { queue = i .queue; ready = i .queue .len; literal = i .literal } ⌝ }
 {
-    let queue = i.queue;
-    Input {
-        queue: queue,
-        ready: queue.len,
-        literal: i.literal,
-    }
+    let q = i.queue;
+    Input { ready: q.len, ..i }
 }

@@ -1,5 +1,4 @@
-// Document 01, 'Reads': what a read gives of the first finished line.
-// Document 01, 'Reads': what a read takes from the stored input.
+// Document 01, 'Reads': what a read gives of the first finished line, and what it takes from the stored input.
 ghost use lib.ListN.{length};
 ghost use Rattle.rules.specs.Lent.{before, after};
 ghost use Rattle.input.specs.Contract.{Within, Sound};

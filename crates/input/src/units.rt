@@ -1,19 +1,26 @@
-// Document 01, 'Received events': the unit that a byte is stored as, and its bytes.
-// Document 01, 'Received events': what fits.
-// Document 01, stored input: the current line ends, with a delimiter or an end-of-file mark.
-// Document 01, stored input: a unit is stored whole.
+// Document 01, 'Received events': the unit that a byte is stored as, what fits, a unit stored whole, and the current line ended by a delimiter or
+// an end-of-file mark.
 ghost use mathlib.Core.Path.{_≡_};
 ghost use mathlib.Core.Bool.{false};
 ghost use lib.ListN.{length};
 ghost use Rattle.rules.specs.Lent.{before, after};
 ghost use Rattle.rules.specs.Sizes.{unit, delimiter, endOfFile};
-ghost use Rattle.input.specs.Contract.{unitOf, Within, TellsUnit, TellsEnd, get, InputBecomes, Room, endedIn, byteOf, markOf, Grows};
+ghost use Rattle.input.specs.Contract.{unitOf, Within, TellsUnit, TellsEnd, Room, byteOf, markOf, Grows, Stores};
+ghost use Rattle.input.specs.Contract.{Ends};
 ghost use mathlib.Core.List.{map};
-ghost use Rattle.rules.specs.Fit.{keptIn};
 ghost use Rattle.rules.specs.Received as steps;
 use super::Input;
 use super::Unit;
 use rules::Settings;
+
+// The marks of a delimiter, of an end-of-file mark, of the first place of a silent unit; and of a place in a unit.
+const DELIMITER: u8 = super::STARTS + super::ENDS;
+
+const MARK: u8 = super::STARTS + super::ENDS + super::END_OF_FILE;
+
+const SILENT_START: u8 = super::STARTS + super::SILENT;
+
+const WITHIN: u8 = 0;
 
 // 'A 255 with PARMRK set, IGNPAR and ISTRIP clear is stored twice.'
 pub fn unit_of(x: Settings, b: u8) -> Unit
@@ -84,18 +91,18 @@ pub fn end_fits(i: Input, n: usize) -> bool
 // the current line ends with a delimiter
 pub fn end(i: Input, bytes: &mut [u8], marks: &mut [u8], b: u8) -> Input
     requires { ⌜ Room i (now bytes) (now marks) 1 ⌝ }
-    ensures { λ r. ⌜ InputBecomes i (before bytes) (before marks) (endedIn (get i (before bytes) (before marks)) (delimiter b)) r (after bytes) (after marks) ⌝ }
+    ensures { λ r. ⌜ Ends (delimiter b) i (before bytes) (before marks) r (after bytes) (after marks) ⌝ }
 {
-    let longer = super::add(i, bytes, marks, b, 3);
+    let longer = super::add(i, bytes, marks, b, DELIMITER);
     super::all_ready(longer)
 }
 
 // the current line ends with an end-of-file mark
 pub fn end_of_file(i: Input, bytes: &mut [u8], marks: &mut [u8]) -> Input
     requires { ⌜ Room i (now bytes) (now marks) 1 ⌝ }
-    ensures { λ r. ⌜ InputBecomes i (before bytes) (before marks) (endedIn (get i (before bytes) (before marks)) endOfFile) r (after bytes) (after marks) ⌝ }
+    ensures { λ r. ⌜ Ends endOfFile i (before bytes) (before marks) r (after bytes) (after marks) ⌝ }
 {
-    let longer = super::add(i, bytes, marks, 0, 7);
+    let longer = super::add(i, bytes, marks, 0, MARK);
     super::all_ready(longer)
 }
 
@@ -104,16 +111,16 @@ fn add_unit(i: Input, bytes: &mut [u8], marks: &mut [u8], u: Unit) -> Input
     ensures { λ r. ⌜ Grows i (before bytes) (before marks) (map byteOf (unitOf u)) (map markOf (unitOf u)) r (after bytes) (after marks) ⌝ }
 {
     match u {
-        Unit::Plain(b) => super::add(i, bytes, marks, b, 1),
+        Unit::Plain(b) => super::add(i, bytes, marks, b, super::STARTS),
         Unit::Doubled => {
-            let first = super::add(i, bytes, marks, 255, 1);
-            super::add(first, bytes, marks, 255, 0)
+            let first = super::add(i, bytes, marks, 255, super::STARTS);
+            super::add(first, bytes, marks, 255, WITHIN)
         }
-        Unit::Zero => super::add(i, bytes, marks, 0, 9),
+        Unit::Zero => super::add(i, bytes, marks, 0, SILENT_START),
         Unit::Broken(b) => {
-            let first = super::add(i, bytes, marks, 255, 9);
-            let second = super::add(first, bytes, marks, 0, 8);
-            super::add(second, bytes, marks, b, 8)
+            let first = super::add(i, bytes, marks, 255, SILENT_START);
+            let second = super::add(first, bytes, marks, 0, super::SILENT);
+            super::add(second, bytes, marks, b, super::SILENT)
         }
     }
 }
@@ -121,7 +128,7 @@ fn add_unit(i: Input, bytes: &mut [u8], marks: &mut [u8], u: Unit) -> Input
 // a unit; without ICANON all that is stored is readable
 pub fn store(i: Input, bytes: &mut [u8], marks: &mut [u8], canonical: bool, u: Unit) -> Input
     requires { ⌜ Room i (now bytes) (now marks) (length (unitOf u)) ⌝ }
-    ensures { λ r. ⌜ InputBecomes i (before bytes) (before marks) (keptIn canonical (get i (before bytes) (before marks)) (unitOf u)) r (after bytes) (after marks) ⌝ }
+    ensures { λ r. ⌜ Stores canonical (unitOf u) i (before bytes) (before marks) r (after bytes) (after marks) ⌝ }
 {
     let longer = add_unit(i, bytes, marks, u);
     if canonical {

@@ -18,7 +18,7 @@ returns c =
     let at-if1 = c .before .before .if1 in
     let v = c .before .before .before .visible in
     let s = c .before .before .before .before in
-    measured-pair (s .args .x) (s .args .m) (s .args .b) (v .result) (v .ensures) (c .before .and .result) (c .and2 .result) (at-if1 .taken)
+    measured-pair (s .args .x) (s .args .measure) (s .args .b) (v .result) (v .ensures) (c .before .and .result) (c .and2 .result) (at-if1 .taken)
     (c .before .and .ensures) (c .and2 .ensures)
 
 and-requires-3 : tie.Need-and-requires-3
@@ -28,7 +28,7 @@ returns-2 : tie.Need-returns-2
 returns-2 c =
     let s = c .before .before .before in
     let v = c .before .before .visible in
-    measured-plain (s .args .x) (s .args .m) (s .args .b) (v .result) (v .ensures) (c .and3 .result) (c .before .if1 .left) (c .and3 .ensures)
+    measured-plain (s .args .x) (s .args .measure) (s .args .b) (v .result) (v .ensures) (c .and3 .result) (c .before .if1 .left) (c .and3 .ensures)
 
 pub measured-spec : {M : Type 1} → statement M
 measured-spec =

@@ -45,12 +45,13 @@ loop-again c =
     (at-loop-test .taken) (at-at .ensures) (at-in-line .ensures) (at-change .ensures)
 
 same-length : tie.Need-same-length Inv-loop μ-loop
-same-length c = c .before .loop .inv .long
+same-length c = c .before .before .loop .inv .long
 
 returns : tie.Need-returns Inv-loop μ-loop
 returns c =
-    let s = c .before .before .before .before in
-    line-end (s .args .i) (s .args .marks .now) (s .pre) (c .before .loop .k) (c .before .loop .marks) (c .before .loop .inv) (c .loop-test .left)
+    let loop = c .before .before .loop in
+    let s = c .before .before .before .before .before in
+    line-end (s .args .i) (s .args .marks .now) (s .pre) (loop .k) (loop .marks) (loop .inv) (c .before .loop-test .left)
 
 pub one-line-spec : {M : Type 1} → statement M
 one-line-spec =
