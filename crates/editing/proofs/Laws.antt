@@ -11,13 +11,12 @@ use lib.Seq.{take-suc, drop-append-le, drop-drop}
 use lib.Dec.{eqb}
 use Rattle.queue.specs.Queue.{held}
 use Rattle.queue.proofs.Rings.{lt-or-le}
-use Rattle.queue.proofs.Laws.{held-length}
 use Rattle.rules.specs.Sizes.{Place}
 use Rattle.rules.specs.Editing.{joined, units, placesOf, withoutUnits, trailing, Edit, removed, edited}
 use Rattle.rules.specs.declared.Settings.{Settings}
 use Rattle.input.specs.Contract.{all, get, lineTo, shortened, Within, InputBecomes}
 use Rattle.input.specs.declared.Input.{Input}
-use Rattle.input.proofs.Laws.{places-at, all-length, line-whole, cut-becomes}
+use Rattle.input.proofs.Laws.{line-whole, cut-becomes, all-long, all-at}
 use Rattle.editing.specs.Contract.{placeAt, placesIn, unitsTo, Line, Starts, Cuts, Removes}
 use Rattle.editing.specs.declared.Run.{Run}
 
@@ -38,26 +37,19 @@ places-units (p ∷ ps) = go (p .starts) (ap (λ (l : List Place). p ∷ l) (pla
 ---- One place more
 
 module _ (i : Input) (bs ms : List ℕ) (e : length bs ≡ length ms) (h : Within i (length ms)) where
-  held-long : length (held (i .queue) bs) ≡ i .queue .len
-  held-long = omega (arith, held-length (i .queue) bs, h .len)
+  within : Within i (length bs)
+  within = rw e h
 
-  pub all-long : length (all i bs ms) ≡ i .queue .len
-  all-long = omega (arith, all-length i bs ms e, h .len)
-
-  all-at : (k : ℕ) (d : Place) → k < i .queue .len → getD (all i bs ms) k d ≡ placeAt i bs ms k
-  unfolding all
-  all-at k d lt =
-      places-at (held (i .queue) bs) (held (i .queue) ms) k d
-      (held-length (i .queue) bs ∙ ap (min (i .queue .len)) e ∙ sym (held-length (i .queue) ms))
-      (omega (arith, held-long))
+  long : length (all i bs ms) ≡ i .queue .len
+  long = all-long i bs ms e within
 
   -- from place `at` on
   pub places-next : (at k : ℕ) → at ≤ k → k < i .queue .len → placesIn i bs ms at (suc k) ≡ placesIn i bs ms at k ++ (placeAt i bs ms k ∷ [])
   places-next at k le lt =
       let a : List Place = all i bs ms in
       let p : Place = placeAt i bs ms k in
-      ap (drop at) (take-suc a k p (omega (arith, all-long)) ∙ ap (λ (x : Place). take k a ++ (x ∷ [])) (all-at k p lt))
-      ∙ drop-append-le at (take k a) (p ∷ []) (omega (arith, length-take k a, all-long))
+      ap (drop at) (take-suc a k p (omega (arith, long)) ∙ ap (λ (x : Place). take k a ++ (x ∷ [])) (all-at i bs ms e within k p lt))
+      ∙ drop-append-le at (take k a) (p ∷ []) (omega (arith, length-take k a, long))
 
   pub line-next : (k : ℕ) → i .ready ≤ k → k < i .queue .len → lineTo i bs ms (suc k) ≡ placeAt i bs ms k ∷ lineTo i bs ms k
   line-next k le lt =
@@ -77,7 +69,7 @@ module _ (i : Input) (bs ms : List ℕ) (e : length bs ≡ length ms) (h : Withi
       ∙ ap (λ (n : ℕ). n - i .ready) (length-take k (all i bs ms) ∙ least)
     where
       least : min k (length (all i bs ms)) ≡ k
-      least = omega (arith, all-long)
+      least = omega (arith, long)
 
   -- before the line nothing is to be shown, and all of it before `len`
   pub units-none : (k : ℕ) → k ≤ i .ready → unitsTo i bs ms k ≡ []

@@ -22,11 +22,11 @@ fn entry(b: u8) -> u8
     CLASSES[b as usize]
 }
 
-pub fn class_of(b: u8) -> Class
+pub(crate) fn class_of(b: u8) -> Class
     ensures { λ r. ⌜ r ≡ classOf b ⌝ }
 {
-    let k = entry(b);
-    match k {
+    let letter = entry(b);
+    match letter {
         b'b' => Class::Blank,
         b'l' => Class::Letter,
         b'c' => Class::Control,

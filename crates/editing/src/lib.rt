@@ -1,7 +1,6 @@
-// Document 01, 'Editing': how many units of the current line ERASE and KILL remove, and where these begin. Walks go
-// back over the current line alone.
-// Document 01, 'Editing': which bytes of the current line REPRINT shows.
-pub mod classes;
+// Document 01, 'Editing': how many units of the current line ERASE and KILL remove, and where these begin; which bytes of it REPRINT shows. Walks
+// go back over the current line alone.
+mod classes;
 pub mod reprinting;
 pub mod words;
 
@@ -20,7 +19,7 @@ pub struct Run {
 }
 
 // where the unit begins whose last place stands before end
-pub fn unit_start(i: Input, marks: &[u8], end: usize) -> usize
+pub(crate) fn unit_start(i: Input, marks: &[u8], end: usize) -> usize
     requires { ⌜ Line i (now marks) end ⌝ }
     requires { ⌜ i .ready < end ⌝ }
     ensures { λ r. ⌜ Starts i (before marks) end r ⌝ }
@@ -38,7 +37,7 @@ pub fn unit_start(i: Input, marks: &[u8], end: usize) -> usize
 }
 
 // one unit before end, where there is one
-pub fn one(i: Input, marks: &[u8], end: usize) -> Run
+pub(crate) fn one(i: Input, marks: &[u8], end: usize) -> Run
     requires { ⌜ Line i (now marks) end ⌝ }
     ensures { λ r. ⌜ CutsOne i (before marks) end r ⌝ }
 {
@@ -77,7 +76,7 @@ pub fn whole_line(i: Input, marks: &[u8]) -> Run
 }
 
 // place k begins a unit of the current line that is not silent: REPRINT shows its byte
-pub fn is_shown(i: Input, marks: &[u8], k: usize) -> bool
+pub(crate) fn is_shown(i: Input, marks: &[u8], k: usize) -> bool
     ensures { λ r. ⌜ r ≡ showsAt i (before marks) k ⌝ }
 {
     let q = i.queue;

@@ -16,15 +16,22 @@ use output::columns::Measure;
 use rules::Settings;
 
 // what place k shows, behind what is measured
-fn measured(m: Measure, x: Settings, i: Input, bytes: &[u8], marks: &[u8], k: usize) -> Measure
-    ensures { λ r. ⌜ ExtendsBy x m (placeEcho x i (before bytes) (before marks) k) r ⌝ }
+fn measured(
+    measure: Measure,
+    x: Settings,
+    i: Input,
+    bytes: &[u8],
+    marks: &[u8],
+    k: usize,
+) -> Measure
+    ensures { λ r. ⌜ ExtendsBy x measure (placeEcho x i (before bytes) (before marks) k) r ⌝ }
 {
     if super::is_shown(i, marks, k) {
         let q = i.queue;
         let b = q.at(bytes, k);
-        return echo::measured(m, x, b);
+        return echo::measured(measure, x, b);
     }
-    m
+    measure
 }
 
 // whether the echo of b, 10 and what the line shows fit in so many bytes
@@ -37,13 +44,13 @@ fn fits(o: Output, x: Settings, i: Input, bytes: &[u8], marks: &[u8], size: usiz
     let len = q.len;
     let begun = o.measure(size);
     let own = echo::measured(begun, x, b);
-    let mut m = own.and(x, 10);
+    let mut measure = own.and(x, 10);
     let mut k = i.ready;
     while k < len {
-        m = measured(m, x, i, bytes, marks, k);
+        measure = measured(measure, x, i, bytes, marks, k);
         k += 1;
     }
-    m.fits
+    measure.fits
 }
 
 // what place k shows, behind what is queued
@@ -83,13 +90,13 @@ fn shown_line(
 {
     let q = i.queue;
     let len = q.len;
-    let mut r = echo::show_line(o, x, out, b);
+    let mut shows = echo::show_line(o, x, out, b);
     let mut k = i.ready;
     while k < len {
-        r = shown(r, x, i, bytes, marks, out, k);
+        shows = shown(shows, x, i, bytes, marks, out, k);
         k += 1;
     }
-    r
+    shows
 }
 
 // 'REPRINT: its echo, 10, then each unit's echo again.'

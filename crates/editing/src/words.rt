@@ -44,10 +44,10 @@ fn is_letter(c: Class) -> bool
     }
 }
 
-fn passes(t: Test, blank: bool, letter: bool) -> bool
-    ensures { λ r. ⌜ r ≡ passesOf t blank letter ⌝ }
+fn passes(test: Test, blank: bool, letter: bool) -> bool
+    ensures { λ r. ⌜ r ≡ passesOf test blank letter ⌝ }
 {
-    match t {
+    match test {
         Test::Blanks => blank,
         Test::NonBlanks => !blank,
         Test::Letters => letter,
@@ -61,10 +61,10 @@ fn passes(t: Test, blank: bool, letter: bool) -> bool
 }
 
 // whether the unit from start to end passes; 'a unit of several bytes is a non-blank of the second class'
-fn passes_at(i: Input, bytes: &[u8], start: usize, end: usize, t: Test) -> bool
+fn passes_at(i: Input, bytes: &[u8], start: usize, end: usize, test: Test) -> bool
     requires { ⌜ Within i (length (now bytes)) ⌝ }
     requires { ⌜ (start < end) × (end ≤ i .queue .len) ⌝ }
-    ensures { λ r. ⌜ ((ms : List ℕ) → length (before bytes) ≡ length ms → r ≡ testOf t (placesIn i (before bytes) ms start end)) ⌝ }
+    ensures { λ r. ⌜ ((ms : List ℕ) → length (before bytes) ≡ length ms → r ≡ testOf test (placesIn i (before bytes) ms start end)) ⌝ }
 {
     let q = i.queue;
     let b = q.at(bytes, start);
@@ -72,22 +72,22 @@ fn passes_at(i: Input, bytes: &[u8], start: usize, end: usize, t: Test) -> bool
     if start + 1 == end {
         let blank = is_blank(c);
         let letter = is_letter(c);
-        return passes(t, blank, letter);
+        return passes(test, blank, letter);
     }
-    passes(t, false, false)
+    passes(test, false, false)
 }
 
 // the units before end that pass the test, one after another
-fn trailing(i: Input, bytes: &[u8], marks: &[u8], end: usize, t: Test) -> Run
+fn trailing(i: Input, bytes: &[u8], marks: &[u8], end: usize, test: Test) -> Run
     requires { ⌜ length (now bytes) ≡ length (now marks) ⌝ }
     requires { ⌜ Line i (now marks) end ⌝ }
-    ensures { λ r. ⌜ Cuts i (before bytes) (before marks) end (trailing (testOf t) (unitsTo i (before bytes) (before marks) end)) r ⌝ }
+    ensures { λ r. ⌜ Cuts i (before bytes) (before marks) end (trailing (testOf test) (unitsTo i (before bytes) (before marks) end)) r ⌝ }
 {
     let mut from = end;
     let mut units = 0;
     while from > i.ready {
         let start = super::unit_start(i, marks, from);
-        let more = passes_at(i, bytes, start, from, t);
+        let more = passes_at(i, bytes, start, from, test);
         if !more {
             return Run {
                 at: from,

@@ -18,10 +18,11 @@ use Rattle.queue.proofs.Laws.{stores-append, put-append, held-length, held-fitt
 use Rattle.rules.specs.Sizes.{Place, Input as Ruled, used}
 use Rattle.rules.specs.Settings.{stored}
 use Rattle.rules.specs.Fit.{keptIn}
-use Rattle.input.specs.Contract.{placeOf, bit, markOf, byteOf, places, all, get, put, added, InputBecomes, Within, Room, Grows, TellsEnd, TellsUnit}
-use Rattle.input.specs.Contract.{fitted, shortened, lineTo, cutAt, emptied, endedIn, unitOf}
+use Rattle.input.specs.Contract.{placeOf, bit, markOf, byteOf, places, all, get, put, added, InputBecomes, Within, Room, Grows, TellsEnd}
+use Rattle.input.specs.Contract.{TellsUnit, fitted, shortened, lineTo, cutAt, emptied, endedIn, unitOf}
 use Rattle.input.specs.declared.Input.{Input}
 use Rattle.input.specs.declared.Unit.{Unit}
+use Rattle.rules.proofs.Limits.{stored-length}
 
 ---- A place and its mark byte
 
@@ -100,9 +101,6 @@ places-at (b ∷ bs) (m ∷ ms) (suc k) d e lt = places-at bs ms k d (omega arit
 
 ---- What is held
 
-pub stored-length : (w : Ruled) → length (stored w) ≡ used w
-stored-length w = length-append (w .finished) (reverse (w .current)) ∙ ap (_+_ (length (w .finished))) (length-reverse (w .current))
-
 -- all that is stored, in the rules' words
 pub stored-all : (i : Input) (bs ms : List ℕ) → stored (get i bs ms) ≡ all i bs ms
 unfolding get
@@ -118,6 +116,10 @@ unfolding all
 all-length i bs ms e =
     places-length (held (i .queue) bs) (held (i .queue) ms) (held-both (i .queue) bs ms e) ∙ held-length (i .queue) bs
 
+pub literal-same : (i : Input) (bs ms : List ℕ) → get i bs ms .literalNext ≡ i .literal
+unfolding get
+literal-same i bs ms = refl
+
 -- places used, in any range
 pub used-least : (i : Input) (bs ms : List ℕ) → length bs ≡ length ms → used (get i bs ms) ≡ min (i .queue .len) (length bs)
 used-least i bs ms e = sym (stored-length (get i bs ms)) ∙ ap length (stored-all i bs ms) ∙ all-length i bs ms e
@@ -126,20 +128,27 @@ module _ (i : Input) (bs ms : List ℕ) (e : length bs ≡ length ms) (h : Withi
   pub used-of : used (get i bs ms) ≡ i .queue .len
   used-of = omega (arith, used-least i bs ms e, h .len)
 
-  long : length (all i bs ms) ≡ i .queue .len
-  long = omega (arith, all-length i bs ms e, h .len)
+  pub all-long : length (all i bs ms) ≡ i .queue .len
+  all-long = omega (arith, all-length i bs ms e, h .len)
+
+  -- the place k, oldest first
+  pub all-at : (k : ℕ) (d : Place) → k < i .queue .len
+      → getD (all i bs ms) k d ≡ placeOf (getD (held (i .queue) bs) k 0) (getD (held (i .queue) ms) k 0)
+  unfolding all
+  all-at k d lt =
+      places-at (held (i .queue) bs) (held (i .queue) ms) k d (held-both (i .queue) bs ms e) (omega (arith, held-length (i .queue) bs, h .len))
 
   pub finished-length : length (get i bs ms .finished) ≡ i .ready
   unfolding get
   finished-length = length-take (i .ready) (all i bs ms) ∙ lesser
     where
       lesser : min (i .ready) (length (all i bs ms)) ≡ i .ready
-      lesser = omega (arith, long, h .ready)
+      lesser = omega (arith, all-long, h .ready)
 
   pub current-length : length (get i bs ms .current) ≡ i .queue .len - i .ready
   unfolding get
   current-length =
-      length-reverse (drop (i .ready) (all i bs ms)) ∙ length-drop (i .ready) (all i bs ms) ∙ ap (λ (n : ℕ). n - i .ready) long
+      length-reverse (drop (i .ready) (all i bs ms)) ∙ length-drop (i .ready) (all i bs ms) ∙ ap (λ (n : ℕ). n - i .ready) all-long
 
 input-is : (f c f′ c′ : List Place) (l l′ : Bool) → f ≡ f′ → c ≡ c′ → l ≡ l′
     → _≡_ {A = Ruled} (record { finished = f; current = c; literalNext = l }) (record { finished = f′; current = c′; literalNext = l′ })
@@ -193,11 +202,11 @@ held-more q r l l′ u k er ek le el =
     let n : ℕ = min (q .len) N in
     let g : ℕ = q .head % N in
     let c : List ℕ = ring N n (q .head) l ++ u in
-    let long : length c ≡ k = length-append (ring N n (q .head) l) u ∙ ap (λ (x : ℕ). x + length u) (ring-length N n (q .head) l) ∙ sym ek in
+    let all-long : length c ≡ k = length-append (ring N n (q .head) l) u ∙ ap (λ (x : ℕ). x + length u) (ring-length N n (q .head) l) ∙ sym ek in
     ap (λ (x : Queue). held x l′) er
     ∙ ap (held (record { head = g; len = k })) (el ∙ put-append N n (q .head) l u)
-    ∙ ap (λ (x : ℕ). held (record { head = g; len = x }) (stores N l g c)) (sym long)
-    ∙ held-laid g l c (omega (arith, long))
+    ∙ ap (λ (x : ℕ). held (record { head = g; len = x }) (stores N l g c)) (sym all-long)
+    ∙ held-laid g l c (omega (arith, all-long))
 
 held-fewer : (q : Queue) (l : List ℕ) (k : ℕ) → k ≤ min (q .len) (length l)
     → held (record { head = q .head % length l; len = k }) l ≡ take k (held q l)
@@ -476,13 +485,9 @@ module _ (i r : Input) (bs ms bs′ ms′ : List ℕ) (u : List Place) (e : leng
           ∙ ap (λ (x : ℕ). stores (length l) l (i .queue .head % length l + x) (map f u)) (sym eu)
           ∙ ap (λ (x : List Place). stores (length l) l (i .queue .head % length l + used (get i bs ms)) (map f x)) (sym en)
 
-  literal-stays : get i bs ms .literalNext ≡ i .literal
-  unfolding get
-  literal-stays = refl
-
   pub stores-current : (canonical : Bool) → canonical ≡ true → InputBecomes i bs ms (keptIn canonical (get i bs ms) u) r bs′ ms′
   stores-current canonical et =
-      let b = becomes-more (keptIn true (get i bs ms) u) (kept-stored true (get i bs ms) u) literal-stays in
+      let b = becomes-more (keptIn true (get i bs ms) u) (kept-stored true (get i bs ms) u) (literal-same i bs ms) in
       let k : r .ready ≡ length (get i bs ms .finished) = ap (λ (x : Input). x .ready) (g .input) ∙ sym (finished-length i bs ms e h) in
       rw et
       (record {
@@ -506,7 +511,7 @@ module _ (i r : Input) (bs ms bs′ ms′ : List ℕ) (u : List Place) (e : leng
   pub stores-finished : (canonical : Bool) (s : Input) → canonical ≡ false → s ≡ record { queue = r .queue; ready = r .queue .len; literal = r .literal }
       → InputBecomes i bs ms (keptIn canonical (get i bs ms) u) s bs′ ms′
   stores-finished canonical s ef er =
-      rw ef (finishes s (keptIn false (get i bs ms) u) (kept-stored false (get i bs ms) u) literal-stays refl er)
+      rw ef (finishes s (keptIn false (get i bs ms) u) (kept-stored false (get i bs ms) u) (literal-same i bs ms) refl er)
 
 pub ends-line : (i r s : Input) (bs ms bs′ ms′ : List ℕ) (p : Place) → Room i bs ms 1
     → Grows i bs ms (byteOf p ∷ []) (markOf p ∷ []) r bs′ ms′
@@ -514,7 +519,7 @@ pub ends-line : (i r s : Input) (bs ms bs′ ms′ : List ℕ) (p : Place) → R
     → InputBecomes i bs ms (endedIn (get i bs ms) p) s bs′ ms′
 ends-line i r s bs ms bs′ ms′ p room g er =
     finishes i r bs ms bs′ ms′ (p ∷ []) (room .same) (room .within) g s (endedIn (get i bs ms) p) (ended-stored (get i bs ms) p)
-    (literal-stays i r bs ms bs′ ms′ (p ∷ []) (room .same) (room .within) g) refl er
+    (literal-same i bs ms) refl er
 
 ---- end_fits, unit_fits
 
@@ -592,7 +597,7 @@ module _ (i : Input) (bs ms : List ℕ) (e : length bs ≡ length ms) where
   pub line-whole : Within i (length bs) → lineTo i bs ms (i .queue .len) ≡ get i bs ms .current
   unfolding get
   line-whole h =
-      ap (λ (l : List Place). reverse (drop (i .ready) l)) (take-all (i .queue .len) (all i bs ms) (omega (arith, long i bs ms e h)))
+      ap (λ (l : List Place). reverse (drop (i .ready) l)) (take-all (i .queue .len) (all i bs ms) (omega (arith, all-long i bs ms e h)))
 
   -- what stays after a cut: the finished lines and the places before it
   pub cut-stored : (at : ℕ) → i .ready ≤ at → stored (cutAt i bs ms at) ≡ take at (stored (get i bs ms))

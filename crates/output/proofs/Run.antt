@@ -52,7 +52,7 @@ taken-full : (N : ℕ) (x : Settings) (n c : ℕ) (bs : List ℕ) (j : ℕ) → 
     → taken N x n c (drop j bs) ≡ 0
 taken-full N x n c bs j lt le = rw (drop-cons bs j 0 lt, lt-leb (n + length (expand x c (getD bs j 0))) N le)
 
-got-column : (x : Settings) (p : Output) (m e : List ℕ) → queued x (get p m) e .column ≡ columnsAfter x (p .column) e
+pub got-column : (x : Settings) (p : Output) (m e : List ℕ) → queued x (get p m) e .column ≡ columnsAfter x (p .column) e
 unfolding get
 got-column x p m e = refl
 

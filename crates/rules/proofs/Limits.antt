@@ -149,7 +149,7 @@ unit-unmarked : (silent : Bool) (b : ℕ) (more : List ℕ) → hasMark (unit si
 unit-unmarked silent b [] = refl
 unit-unmarked silent b (c ∷ cs) = unit-unmarked silent b cs
 
-stored-length : (i : Input) → length (stored i) ≡ used i
+pub stored-length : (i : Input) → length (stored i) ≡ used i
 stored-length i = length-append (i .finished) (reverse (i .current)) ∙ ap (_+_ (length (i .finished))) (length-reverse (i .current))
 
 none-unmarked : (l : List Place) → length l ≡ 0 → hasMark (reverse l) ≡ false

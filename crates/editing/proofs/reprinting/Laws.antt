@@ -28,6 +28,7 @@ use Rattle.editing.specs.Contract.{unitsTo, showsAt}
 use Rattle.editing.proofs.Laws.{units-none, units-whole}
 use Rattle.editing.proofs.Shown.{echo-next}
 use Rattle.editing.specs.reprinting.Contract.{placeEcho, reprinted, needed}
+use Rattle.output.proofs.Run.{got-column}
 
 ---- One place
 
@@ -44,10 +45,6 @@ pub extends-none : (x : Settings) (m : Measure) → ExtendsBy x m [] m
 extends-none x m = λ room c bs h. subst (λ (l : List ℕ). Measures x room c l m) (sym (append-nil bs)) h
 
 ---- A run, and an echo behind it that fits
-
-got-column : (x : Settings) (o : Output) (l e : List ℕ) → queued x (get o l) e .column ≡ columnsAfter x (o .column) e
-unfolding get
-got-column x o l e = refl
 
 -- the run a is queued
 abbrev Runs : Settings → Output → List ℕ → List ℕ → Output → List ℕ → Type 0

@@ -22,7 +22,8 @@ use Rattle.editing.specs.declared.Run.{Run}
 use Rattle.editing.specs.declared.words.Test.{Test}
 use Rattle.editing.specs.declared.words.Test.the-variants.{Blanks, NonBlanks, Letters, Others}
 use Rattle.editing.specs.words.Contract.{blankClass, letterClass, testOf, passesOf}
-use Rattle.editing.proofs.Laws.{removes-of, place-one, all-long}
+use Rattle.editing.proofs.Laws.{removes-of, place-one}
+use Rattle.input.proofs.Laws.{all-long}
 
 ---- passes_at
 
@@ -95,7 +96,7 @@ module _ (i : Input) (bs : List ℕ) (start end : ℕ) (t : Test) (r : Bool) (h 
       (sym (no-single isBlank u two), sym (no-single isLetter u two)))
     where
       least : (ms : List ℕ) → length bs ≡ length ms → min end (length (all i bs ms)) ≡ end
-      least ms e = omega (arith, all-long i bs ms e (rw (← e) h))
+      least ms e = omega (arith, all-long i bs ms e h)
 
       no-single : (test : ℕ → Bool) (u : List Place) → 1 < length u → single test u ≡ false
       no-single test [] lt = refl

@@ -14,15 +14,15 @@ use Rattle.queue.specs.Ring.{stores}
 use Rattle.queue.specs.Queue.{held, changed}
 use Rattle.queue.specs.declared.Queue.{Queue}
 use Rattle.queue.proofs.Rings.{apart, stores-length, stores-snoc}
-use Rattle.queue.proofs.Laws.{at-in, held-length, held-laid}
+use Rattle.queue.proofs.Laws.{at-in, held-laid}
 use Rattle.rules.specs.Sizes.{Place, Input as Ruled, used}
 use Rattle.rules.specs.Settings.{stored, withoutMarks, changedInput}
 use Rattle.input.specs.Contract.{placeOf, bit, markOf, byteOf, places, all, get, Sound}
 use Rattle.input.specs.declared.Input.{Input}
-use Rattle.input.proofs.Laws.{places-of, places-at, stored-length, stored-all, all-length, used-of, get-of, After, numbers-are}
+use Rattle.input.proofs.Laws.{places-of, stored-all, used-of, get-of, After, numbers-are, all-long, all-at, literal-same}
 use Rattle.input.proofs.reading.FirstLine.{nowhere}
-use Rattle.input.proofs.reading.Laws.{held-same, literal-same}
 use Rattle.input.specs.canonical.Contract.{Laid, GoesOff}
+use Rattle.rules.proofs.Limits.{stored-length}
 
 ---- Places laid anew from the head on
 
@@ -184,23 +184,14 @@ module _ (i : Input) (bs ms : List ℕ) (h : Sound i bs ms) where
   keeps-begin =
       record { upto = omega arith; count = refl; few = omega arith; bytes = refl; marks = refl; long = refl; wide = refl }
 
-  all-long : length (all i bs ms) ≡ i .queue .len
-  all-long = omega (arith, all-length i bs ms (h .same), h .within .len)
-
   marks-fit : i .queue .len ≤ length ms
   marks-fit = rw (← h .same) (h .within .len)
-
-  all-at : (k : ℕ) → k < i .queue .len → getD (all i bs ms) k nowhere ≡ placeOf (getD (held (i .queue) bs) k 0) (getD (held (i .queue) ms) k 0)
-  unfolding all
-  all-at k lt =
-      places-at (held (i .queue) bs) (held (i .queue) ms) k nowhere (held-same i bs ms h)
-      (omega (arith, held-length (i .queue) bs, h .within .len))
 
   module _ (k kept : ℕ) (bs′ ms′ : List ℕ) (g : Keeps i bs ms k kept bs′ ms′) (lt : k < i .queue .len) where
     kept-next : keptOf i bs ms (k + 1) ≡ keptOf i bs ms k ++ withoutMarks (getD (all i bs ms) k nowhere ∷ [])
     kept-next =
         ap (λ (x : ℕ). keptOf i bs ms x) (add-one k)
-        ∙ ap withoutMarks (take-suc (all i bs ms) k nowhere (omega (arith, all-long)))
+        ∙ ap withoutMarks (take-suc (all i bs ms) k nowhere (omega (arith, all-long i bs ms (h .same) (h .within))))
         ∙ without-append (take k (all i bs ms)) (getD (all i bs ms) k nowhere ∷ [])
 
     laid-few : (f : Place → ℕ) → length (map f (keptOf i bs ms k)) ≤ k
@@ -215,7 +206,7 @@ module _ (i : Input) (bs ms : List ℕ) (h : Sound i bs ms) where
     keeps-skip m t em et tt =
         let p : Place = getD (all i bs ms) k nowhere in
         let mark : p .mark ≡ true =
-        ap (λ (x : Place). x .mark) (all-at k lt) ∙ ap (λ (x : ℕ). eqb (x / 4 % 2) 1) (sym (mark-is m em)) ∙ sym et ∙ tt in
+        ap (λ (x : Place). x .mark) (all-at i bs ms (h .same) (h .within) k nowhere lt) ∙ ap (λ (x : ℕ). eqb (x / 4 % 2) 1) (sym (mark-is m em)) ∙ sym et ∙ tt in
         let none : withoutMarks (p ∷ []) ≡ [] = ap (λ (x : Bool). cond x [] (p ∷ [])) mark in
         let same : keptOf i bs ms (k + 1) ≡ keptOf i bs ms k =
         kept-next ∙ ap (_++_ (keptOf i bs ms k)) none ∙ append-nil (keptOf i bs ms k) in
@@ -239,7 +230,7 @@ module _ (i : Input) (bs ms : List ℕ) (h : Sound i bs ms) where
         let byte : b ≡ getD (held q bs) k 0 =
         eb ∙ held-before q bs bs′ (map byteOf K) (h .within .len) (g .bytes) k (laid-few byteOf) lt in
         let at : getD (all i bs ms) k nowhere ≡ p =
-        all-at k lt
+        all-at i bs ms (h .same) (h .within) k nowhere lt
         ∙ ap (λ (x : ℕ). placeOf x (getD (held q ms) k 0)) (sym byte)
         ∙ ap (placeOf b) (sym (mark-is m em)) in
         let one : withoutMarks (p ∷ []) ≡ p ∷ [] = ap (λ (x : Bool). cond x [] (p ∷ [])) (sym et ∙ tf) in
@@ -273,12 +264,12 @@ module _ (i : Input) (bs ms : List ℕ) (h : Sound i bs ms) where
   keeps-end k kept bs′ ms′ g le =
       let K : List Place = withoutMarks (stored (get i bs ms)) in
       let whole : keptOf i bs ms k ≡ K =
-      ap withoutMarks (take-all k (all i bs ms) (omega (arith, all-long)) ∙ sym (stored-all i bs ms)) in
+      ap withoutMarks (take-all k (all i bs ms) (omega (arith, all-long i bs ms (h .same) (h .within))) ∙ sym (stored-all i bs ms)) in
       let size : length K ≡ kept = ap length (sym whole) ∙ g .count in
       record {
         input =
             numbers-are (i .queue .head) (i .queue .head % length bs) kept (length K + 0) kept (length K) (i .literal) (get i bs ms .literalNext)
-            (sym (h .within .head)) (omega (arith, size)) (sym size) (sym (literal-same i bs ms h));
+            (sym (h .within .head)) (omega (arith, size)) (sym size) (sym (literal-same i bs ms));
         bytes = g .bytes ∙ ap (λ (l : List Place). stores (length bs) bs (i .queue .head % length bs) (map byteOf l)) whole;
         marks = g .marks ∙ ap (λ (l : List Place). stores (length ms) ms (i .queue .head % length ms) (map markOf l)) whole;
       }

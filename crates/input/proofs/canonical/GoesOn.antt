@@ -19,10 +19,11 @@ use Rattle.rules.specs.Sizes.{Place, used}
 use Rattle.rules.specs.Settings.{stored, endsHere, oneLine, changedInput}
 use Rattle.input.specs.Contract.{placeOf, bit, markOf, byteOf, places, all, get, Within, Sound}
 use Rattle.input.specs.declared.Input.{Input}
-use Rattle.input.proofs.Laws.{stored-length, stored-all, used-of, After, numbers-are}
-use Rattle.input.proofs.reading.Laws.{bytes-all, held-same, literal-same}
+use Rattle.input.proofs.Laws.{stored-all, used-of, After, numbers-are, literal-same}
+use Rattle.input.proofs.reading.Laws.{bytes-all, held-same}
 use Rattle.input.proofs.canonical.GoesOff.{held-before, change-laid, laid-after, one-laid, bit-of}
 use Rattle.input.specs.canonical.Contract.{GoesOn, inLine}
+use Rattle.rules.proofs.Limits.{stored-length}
 
 -- no second result fits
 pub one-line-on : {i : Input} {ms : List ℕ} {r s : Input} {ms′ ns : List ℕ} → GoesOn i ms r ms′ → GoesOn i ms s ns → (r ≡ s) × (ms′ ≡ ns)
@@ -142,7 +143,7 @@ module _ (i : Input) (ms : List ℕ) (h : Within i (length ms)) where
         input =
             numbers-are (q .head) (q .head % N) (q .len) (length (oneLine (stored (get i bs ms))) + 0) (q .len) (length (oneLine (stored (get i bs ms))))
             (i .literal) (get i bs ms .literalNext)
-            (sym (v .head)) (omega (arith, size)) (sym size) (sym (literal-same i bs ms sound));
+            (sym (v .head)) (omega (arith, size)) (sym size) (sym (literal-same i bs ms));
         bytes = laid-again q bs ∙ ap (stores N bs (q .head % N)) (sym bytes);
         marks =
             g .marks

@@ -18,7 +18,7 @@ use Rattle.rules.specs.Settings.{stored}
 use Rattle.rules.specs.Reads.{Part, bytesOf, firstLine, firstBytes}
 use Rattle.input.specs.Contract.{places, all, get, put, Within, Sound}
 use Rattle.input.specs.declared.Input.{Input}
-use Rattle.input.proofs.Laws.{stored-all, used-of, finished-length, current-length, get-of, After, numbers-are, held-both}
+use Rattle.input.proofs.Laws.{stored-all, used-of, finished-length, current-length, get-of, After, numbers-are, held-both, literal-same}
 use Rattle.input.specs.reading.Contract.{Splits, TellsLine, leaves, gone, ReadsPart, ReadsLine, ReadsBytes, Gives, Given}
 use Rattle.input.specs.declared.reading.Taken.{Taken}
 use Rattle.input.specs.declared.reading.Line.{Line}
@@ -79,10 +79,6 @@ module _ (i : Input) (bs ms : List ℕ) (h : Sound i bs ms) where
   pub held-same : length (held (i .queue) bs) ≡ length (held (i .queue) ms)
   held-same = held-both (i .queue) bs ms (h .same)
 
-  pub literal-same : get i bs ms .literalNext ≡ i .literal
-  unfolding get
-  literal-same = refl
-
   bytes-finished : (k : ℕ) → k ≤ i .ready → bytesOf (take k (get i bs ms .finished)) ≡ take k (held (i .queue) bs)
   unfolding get all
   bytes-finished k le =
@@ -115,7 +111,7 @@ module _ (i : Input) (bs ms : List ℕ) (h : Sound i bs ms) where
         (record { queue = record { head = (i .queue .head + t) % length bs; len = i .queue .len - t }; ready = i .ready - t; literal = i .literal })
         (put (leaves (get i bs ms) (p .left)) ((i .queue .head + gone (get i bs ms) (leaves (get i bs ms) (p .left))) % length bs))
     left-numbers =
-        numbers-are _ _ _ _ _ _ _ _ (ap (λ (x : ℕ). (i .queue .head + x) % length bs) (sym gone-is)) (sym used-left) (sym left-count) (sym literal-same)
+        numbers-are _ _ _ _ _ _ _ _ (ap (λ (x : ℕ). (i .queue .head + x) % length bs) (sym gone-is)) (sym used-left) (sym left-count) (sym (literal-same i bs ms))
 
     given-reads : (d : List ℕ) (r : Taken) (d′ : List ℕ) → Given i bs d k t r d′ → ReadsPart i bs ms d p r d′
     given-reads d r d′ g =

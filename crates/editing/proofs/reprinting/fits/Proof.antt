@@ -7,10 +7,10 @@ use Rattle.editing.proofs.reprinting.fits.Statement.{statement}
 use Rattle.editing.proofs.reprinting.fits.Tie as tie
 
 abbrev Inv-loop : tie.InvT-loop
-Inv-loop x i bytes marks size b len m₀ k₀ m k = Measuring x i bytes marks m₀ k m
+Inv-loop x i bytes marks size b len measure₀ k₀ measure k = Measuring x i bytes marks measure₀ k measure
 
 abbrev μ-loop : tie.MeasureT-loop
-μ-loop x i bytes marks size b len m₀ k₀ m k = len - k
+μ-loop x i bytes marks size b len measure₀ k₀ measure k = len - k
 
 measure-requires : tie.Need-measure-requires Inv-loop μ-loop
 measure-requires c κs = search needs
@@ -44,7 +44,7 @@ loop-again c =
     let at-and = c .before .before .before .and in
     let s = c .before .before .before .before .before .before .before .before .before in
     let a = s .args in
-    measuring-next (a .x) (a .i) (a .bytes .now) (a .marks .now) (s .pre .0) (s .pre .1) (at-and .result) (l .k) (l .m) (c .measured2 .result) (l .inv)
+    measuring-next (a .x) (a .i) (a .bytes .now) (a .marks .now) (s .pre .0) (s .pre .1) (at-and .result) (l .k) (l .measure) (c .measured2 .result) (l .inv)
     (c .before .loop-test .taken) (c .measured2 .ensures)
 
 returns : tie.Need-returns Inv-loop μ-loop
@@ -56,7 +56,7 @@ returns c =
     let s = c .before .before .before .before .before .before .before .before in
     let a = s .args in
     measured-all (a .x) (a .i) (a .bytes .now) (a .marks .now) (s .pre .0) (s .pre .1) (m .result) (a .o) (a .size) (a .b) (begun .result) (own .result)
-    (begun .ensures) (own .ensures) (m .ensures) (l .k) (l .m) (l .inv) (c .loop-test .left)
+    (begun .ensures) (own .ensures) (m .ensures) (l .k) (l .measure) (l .inv) (c .loop-test .left)
 
 pub fits-spec : {M : Type 1} → statement M
 fits-spec =

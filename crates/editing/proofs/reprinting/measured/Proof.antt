@@ -24,7 +24,7 @@ returns c =
     let t = c .before .before .before .before .is-shown in
     let s = c .before .before .before .before .before .before .before in
     let a = s .args in
-    extends-as (a .x) (a .m) (c .measured .result) (visible (a .x) (v .result)) (placeEcho (a .x) (a .i) (a .bytes .now) (a .marks .now) (a .k))
+    extends-as (a .x) (a .measure) (c .measured .result) (visible (a .x) (v .result)) (placeEcho (a .x) (a .i) (a .bytes .now) (a .marks .now) (a .k))
     (place-seen (a .x) (a .i) (a .bytes .now) (a .marks .now) (a .k) (t .result) (t .ensures) (v .result) (at-if1 .taken) (v .ensures))
     (c .measured .ensures)
 
@@ -33,9 +33,9 @@ returns-2 c =
     let s = c .before .before .before .before in
     let a = s .args in
     let t = c .before .is-shown in
-    extends-as (a .x) (a .m) (a .m) [] (placeEcho (a .x) (a .i) (a .bytes .now) (a .marks .now) (a .k))
+    extends-as (a .x) (a .measure) (a .measure) [] (placeEcho (a .x) (a .i) (a .bytes .now) (a .marks .now) (a .k))
     (place-unseen (a .x) (a .i) (a .bytes .now) (a .marks .now) (a .k) (t .result) (t .ensures) (c .if1 .left))
-    (extends-none (a .x) (a .m))
+    (extends-none (a .x) (a .measure))
 
 pub measured-spec : {M : Type 1} → statement M
 measured-spec =

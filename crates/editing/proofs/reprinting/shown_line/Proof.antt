@@ -7,10 +7,10 @@ use Rattle.editing.proofs.reprinting.shown_line.Statement.{statement}
 use Rattle.editing.proofs.reprinting.shown_line.Tie as tie
 
 abbrev Inv-loop : tie.InvT-loop
-Inv-loop x i bytes marks out₀ b len r₀ k₀ out r k = Showing x i bytes marks r₀ out₀ k r out
+Inv-loop x i bytes marks out₀ b len shows₀ k₀ out shows k = Showing x i bytes marks shows₀ out₀ k shows out
 
 abbrev μ-loop : tie.MeasureT-loop
-μ-loop x i bytes marks out₀ b len r₀ k₀ out r k = len - k
+μ-loop x i bytes marks out₀ b len shows₀ k₀ out shows k = len - k
 
 show-line-requires : tie.Need-show-line-requires Inv-loop μ-loop
 show-line-requires c κs = search needs
@@ -42,7 +42,7 @@ loop-again c =
     let f = c .before .before .before .before .before .before .before .before .show-line in
     let s = back .before .before in
     let a = s .args in
-    showing-next (a .x) (a .i) (a .bytes .now) (a .marks .now) (s .pre .0) (s .pre .1 .0) (f .result) (f .last .1 .1 .0) (l .k) (l .r) (t .result) (l .out)
+    showing-next (a .x) (a .i) (a .bytes .now) (a .marks .now) (s .pre .0) (s .pre .1 .0) (f .result) (f .last .1 .1 .0) (l .k) (l .shows) (t .result) (l .out)
     (t .last .1 .1 .1 .1 .1 .0) (l .inv) (at-loop-test .taken) (t .ensures)
 
 same-length : tie.Need-same-length Inv-loop μ-loop
@@ -52,7 +52,7 @@ same-length c =
     let s = c .before .before .before .before .before .before .before .before .before .before in
     let a = s .args in
     shown-size (a .x) (a .i) (a .bytes .now) (a .marks .now) (s .pre .0) (s .pre .1 .0) (f .result) (f .last .1 .1 .0) (a .o) (a .out .now) (a .b)
-    (s .pre .1 .1) (f .ensures) (l .k) (l .r) (l .out) (l .inv)
+    (s .pre .1 .1) (f .ensures) (l .k) (l .shows) (l .out) (l .inv)
 
 returns : tie.Need-returns Inv-loop μ-loop
 returns c =
@@ -61,7 +61,7 @@ returns c =
     let s = c .before .before .before .before .before .before .before .before .before .before in
     let a = s .args in
     shown-all (a .x) (a .i) (a .bytes .now) (a .marks .now) (s .pre .0) (s .pre .1 .0) (f .result) (f .last .1 .1 .0) (a .o) (a .out .now) (a .b)
-    (s .pre .1 .1) (f .ensures) (l .k) (l .r) (l .out) (l .inv) (c .loop-test .left)
+    (s .pre .1 .1) (f .ensures) (l .k) (l .shows) (l .out) (l .inv) (c .loop-test .left)
 
 pub shown-line-spec : {M : Type 1} → statement M
 shown-line-spec =

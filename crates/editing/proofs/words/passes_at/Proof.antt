@@ -29,7 +29,7 @@ returns c =
     let at-class-of = c .before .before .before .before .class-of in
     let at-at = c .before .before .before .before .before .at in
     let s = c .before .before .before .before .before .before .before .before in
-    passes-single (s .args .i) (s .args .bytes .now) (s .args .start) (s .args .end) (s .args .t) (c .passes .result) (s .pre .0) (s .pre .1 .0)
+    passes-single (s .args .i) (s .args .bytes .now) (s .args .start) (s .args .end) (s .args .test) (c .passes .result) (s .pre .0) (s .pre .1 .0)
     (s .pre .1 .1) (at-at .result) (at-class-of .result) (at-is-blank .result) (c .before .is-letter .result)
     (at-at .ensures) (at-class-of .ensures) (at-is-blank .ensures) (c .before .is-letter .ensures) (at-if1 .taken) (c .passes .ensures)
 
@@ -39,7 +39,7 @@ passes-requires-2 c κs = search needs
 returns-2 : tie.Need-returns-2
 returns-2 c =
     let s = c .before .before .before .before .before .before in
-    passes-several (s .args .i) (s .args .bytes .now) (s .args .start) (s .args .end) (s .args .t) (c .passes2 .result) (s .pre .0) (s .pre .1 .0)
+    passes-several (s .args .i) (s .args .bytes .now) (s .args .start) (s .args .end) (s .args .test) (c .passes2 .result) (s .pre .0) (s .pre .1 .0)
     (s .pre .1 .1) (c .before .if1 .left) (c .passes2 .ensures)
 
 pub passes-at-spec : {M : Type 1} → statement M

@@ -8,15 +8,15 @@ use Rattle.editing.proofs.words.trailing.Statement.{statement}
 use Rattle.editing.proofs.words.trailing.Tie as tie
 
 abbrev Inv-loop : tie.InvT-loop
-Inv-loop i bytes marks end t from₀ units₀ from units = Walked i bytes marks end (testOf t) from units
+Inv-loop i bytes marks end test from₀ units₀ from units = Walked i bytes marks end (testOf test) from units
 
 abbrev μ-loop : tie.MeasureT-loop
-μ-loop i bytes marks end t from₀ units₀ from units = from
+μ-loop i bytes marks end test from₀ units₀ from units = from
 
 loop-holds : tie.Need-loop-holds Inv-loop μ-loop
 loop-holds c =
     let s = c .before .before in
-    walk-begin (s .args .i) (s .args .bytes .now) (s .args .marks .now) (s .args .end) (testOf (s .args .t)) (s .pre .0) (s .pre .1 .low)
+    walk-begin (s .args .i) (s .args .bytes .now) (s .args .marks .now) (s .args .end) (testOf (s .args .test)) (s .pre .0) (s .pre .1 .low)
 
 unit-start-requires : tie.Need-unit-start-requires Inv-loop μ-loop
 unit-start-requires c κs =
@@ -40,7 +40,7 @@ returns c =
     let at-unit-start = c .before .before .unit-start in
     let at-loop = c .before .before .before .before .before .loop in
     let s = c .before .before .before .before .before .before .before .before in
-    walk-fails (s .args .i) (s .args .bytes .now) (s .args .marks .now) (s .args .end) (testOf (s .args .t)) (s .pre .0) (at-loop .from) (at-loop .units)
+    walk-fails (s .args .i) (s .args .bytes .now) (s .args .marks .now) (s .args .end) (testOf (s .args .test)) (s .pre .0) (at-loop .from) (at-loop .units)
     (at-loop .inv) (at-unit-start .result) (at-unit-start .ensures)
     (sym (p .ensures (s .args .marks .now) (s .pre .0)) ∙ not-true (p .result) (c .if2 .taken))
 
@@ -56,7 +56,7 @@ loop-again c =
     let at-unit-start = c .before .before .unit-start in
     let at-loop = c .before .before .before .before .before .loop in
     let s = c .before .before .before .before .before .before .before .before in
-    walk-next (s .args .i) (s .args .bytes .now) (s .args .marks .now) (s .args .end) (testOf (s .args .t)) (s .pre .0) (at-loop .from) (at-loop .units)
+    walk-next (s .args .i) (s .args .bytes .now) (s .args .marks .now) (s .args .end) (testOf (s .args .test)) (s .pre .0) (at-loop .from) (at-loop .units)
     (at-loop .inv) (at-unit-start .result) (at-unit-start .ensures)
     (sym (p .ensures (s .args .marks .now) (s .pre .0)) ∙ not-false (p .result) (c .if2 .left))
 
@@ -64,7 +64,7 @@ returns-2 : tie.Need-returns-2 Inv-loop μ-loop
 returns-2 c =
     let at-loop = c .before .before .loop in
     let s = c .before .before .before .before .before in
-    walk-end (s .args .i) (s .args .bytes .now) (s .args .marks .now) (s .args .end) (testOf (s .args .t)) (s .pre .0) (at-loop .from) (at-loop .units)
+    walk-end (s .args .i) (s .args .bytes .now) (s .args .marks .now) (s .args .end) (testOf (s .args .test)) (s .pre .0) (at-loop .from) (at-loop .units)
     (at-loop .inv) (s .pre .1 .within) (c .if1 .left)
 
 pub trailing-spec : {M : Type 1} → statement M
