@@ -1,2 +1,2 @@
 pub mod Theorem
-pub mod alike
+pub mod traces

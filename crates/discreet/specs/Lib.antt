@@ -1,2 +1,2 @@
 pub mod Statement
-pub mod alike
+pub mod traces

@@ -225,4 +225,5 @@ module _ (x : Settings) (o : Output) (l bs : List ℕ) (i : ℕ) (m : Measure) (
 pub turns : (x : Settings) (o r : Output) (l l′ : List ℕ) {e j : Expansion} → e ≡ j → OutputBecomes o l (queued x (get o l) (expandedBytes j)) r l′
     → OutputBecomes o l (queued x (get o l) (expandedBytes e)) r l′
 turns x o r l l′ {e} {j} p b =
-    becomes o r l l′ (queued x (get o l) (expandedBytes j)) (queued x (get o l) (expandedBytes e)) (ap (λ (k : Expansion). queued x (get o l) (expandedBytes k)) (sym p)) b
+    becomes o r l l′ (queued x (get o l) (expandedBytes j)) (queued x (get o l) (expandedBytes e))
+    (ap (λ (k : Expansion). queued x (get o l) (expandedBytes k)) (sym p)) b

@@ -206,7 +206,8 @@ module _ (i : Input) (bs ms : List ℕ) (h : Sound i bs ms) where
     keeps-skip m t em et tt =
         let p : Place = getD (all i bs ms) k nowhere in
         let mark : p .mark ≡ true =
-        ap (λ (x : Place). x .mark) (all-at i bs ms (h .same) (h .within) k nowhere lt) ∙ ap (λ (x : ℕ). eqb (x / 4 % 2) 1) (sym (mark-is m em)) ∙ sym et ∙ tt in
+        ap (λ (x : Place). x .mark) (all-at i bs ms (h .same) (h .within) k nowhere lt) ∙ ap (λ (x : ℕ). eqb (x / 4 % 2) 1) (sym (mark-is m em)) ∙ sym et
+        ∙ tt in
         let none : withoutMarks (p ∷ []) ≡ [] = ap (λ (x : Bool). cond x [] (p ∷ [])) mark in
         let same : keptOf i bs ms (k + 1) ≡ keptOf i bs ms k =
         kept-next ∙ ap (_++_ (keptOf i bs ms k)) none ∙ append-nil (keptOf i bs ms k) in

@@ -111,7 +111,8 @@ module _ (i : Input) (bs ms : List ℕ) (h : Sound i bs ms) where
         (record { queue = record { head = (i .queue .head + t) % length bs; len = i .queue .len - t }; ready = i .ready - t; literal = i .literal })
         (put (leaves (get i bs ms) (p .left)) ((i .queue .head + gone (get i bs ms) (leaves (get i bs ms) (p .left))) % length bs))
     left-numbers =
-        numbers-are _ _ _ _ _ _ _ _ (ap (λ (x : ℕ). (i .queue .head + x) % length bs) (sym gone-is)) (sym used-left) (sym left-count) (sym (literal-same i bs ms))
+        numbers-are _ _ _ _ _ _ _ _ (ap (λ (x : ℕ). (i .queue .head + x) % length bs) (sym gone-is)) (sym used-left) (sym left-count)
+        (sym (literal-same i bs ms))
 
     given-reads : (d : List ℕ) (r : Taken) (d′ : List ℕ) → Given i bs d k t r d′ → ReadsPart i bs ms d p r d′
     given-reads d r d′ g =

@@ -60,7 +60,8 @@ put-spaces-requires : tie.Need-put-spaces-requires
 put-spaces-requires c κs =
     let at-expanded2 = c .before .before .expanded2 in
     let start = c .before .before .before .before .before in
-    let w : length (expandedBytes (start .args .expanded)) ≡ at-expanded2 .given .0 .0 = ap (λ (k : Expansion). length (expandedBytes k)) (at-expanded2 .given .1)
+    let w : length (expandedBytes (start .args .expanded)) ≡ at-expanded2 .given .0 .0 =
+    ap (λ (k : Expansion). length (expandedBytes k)) (at-expanded2 .given .1)
     ∙ length-replicate (at-expanded2 .given .0 .0) 32 in
     omega (arith, start .pre)
 

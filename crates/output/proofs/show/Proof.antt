@@ -39,7 +39,8 @@ loop-again c =
     let at-loop-test = c .before .before .loop-test in
     let at-loop = c .before .before .before .loop in
     let start = c .before .before .before .before .before .before .before in
-    measuring-next (start .args .x) (start .args .was) (length (start .args .out .now)) (start .args .bytes .now) (at-loop .k) (at-loop .measure) (c .and .result)
+    measuring-next (start .args .x) (start .args .was) (length (start .args .out .now)) (start .args .bytes .now) (at-loop .k) (at-loop .measure)
+    (c .and .result)
     (at-loop .inv) (at-loop-test .taken) (c .and .ensures)
 
 write-requires : tie.Need-write-requires Inv-loop μ-loop
@@ -73,7 +74,8 @@ returns-2 c =
     let at-loop-test = c .before .before .loop-test in
     let loop = c .before .before .before .loop in
     let start = c .before .before .before .before .before .before .before in
-    shows-nothing (start .args .x) (start .args .was) (start .args .out .now) (start .args .bytes .now) (loop .k) (loop .measure) (loop .inv) (at-loop-test .left)
+    shows-nothing (start .args .x) (start .args .was) (start .args .out .now) (start .args .bytes .now) (loop .k) (loop .measure) (loop .inv)
+    (at-loop-test .left)
     (c .before .if1 .left) (c .fit .result) (c .fit .ensures)
 
 pub show-spec : {M : Type 1} → statement M

@@ -7,7 +7,7 @@ use Rattle.rules.specs.Trace.{trace}
 use Rattle.secrecy.specs.Statement.{Each, Quiet}
 use Rattle.trace.specs.stream.Contract.{beginning}
 use Rattle.trace.specs.stream.Pieces.{joined, Writes}
-use Rattle.discreet.specs.alike.Statement.{Rec, encodedAll, Ends, callsOf, RecordsDiffer, PrintedAlike, settingsAfter}
+use Rattle.discreet.specs.traces.Statement.{Rec, encodedAll, Ends, callsOf, RecordsDiffer, PrintedAlike, settingsAfter}
 
 -- what one caller writes, with a port of document 01's sizes and any slices
 pub record Caller (input t : List ℕ) : Type 0 where

@@ -4,7 +4,7 @@ use mathlib.Core.Path.{_≡_, refl}
 use mathlib.Core.List.{List, [], _∷_, _++_}
 use Rattle.rules.specs.Trace.{text, trace}
 use Rattle.secrecy.specs.Statement.{Each, none, more, Quiet, good}
-use Rattle.discreet.specs.alike.Statement.{Rec, encodedAll, Ends, inRecord, RecordsDiffer, same, differ, settingsAfter}
+use Rattle.discreet.specs.traces.Statement.{Rec, encodedAll, Ends, inRecord, RecordsDiffer, same, differ, settingsAfter}
 
 -- the default settings, but ECHO clear and WERASE disabled
 abbrev silent : List Rec

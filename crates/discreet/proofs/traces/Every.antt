@@ -9,7 +9,7 @@ use lib.Seq.{length-take-le}
 use lib.Dec.{leb}
 use borrow.Author.Tests.{leb-true}
 use Rattle.rules.specs.Trace.{aRecord, cut, two}
-use Rattle.discreet.specs.alike.Statement.{Rec, encoded, encodedAll, Ends, atEnd, inRecord, Bytes, EveryTrace}
+use Rattle.discreet.specs.traces.Statement.{Rec, encoded, encodedAll, Ends, atEnd, inRecord, Bytes, EveryTrace}
 
 abbrev Split : List ℕ → Type 0
 Split l = (rs : List Rec) × (tail : List ℕ) × Ends tail × (l ≡ encodedAll rs ++ tail)

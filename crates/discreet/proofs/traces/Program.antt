@@ -4,8 +4,8 @@ use mathlib.Core.Path.{_≡_, ap, _∙_}
 use mathlib.Core.List.{List}
 use Rattle.rules.specs.Trace.{trace}
 use Rattle.trace.proofs.stream.Pieces.{writes-the-whole}
-use Rattle.discreet.specs.alike.Program.{Caller, Demand3Program}
-use Rattle.discreet.proofs.alike.Theorem.{demand-3-traces}
+use Rattle.discreet.specs.traces.Program.{Caller, Demand3Program}
+use Rattle.discreet.proofs.traces.Theorem.{demand-3-traces}
 
 wrote : (input t : List ℕ) → Caller input t → t ≡ trace input
 wrote input t c =

@@ -1,6 +1,6 @@
 -- Demand 3 of traces: two traces that differ only in plain bytes received print the same, but for the hex of the bytes that a read
--- delivers. The words are those of secrecy's statement and of the rules' trace. It is proved in proofs/Theorem.antt; that every trace is
--- such a one, in proofs/Every.antt; two traces that meet the premises stand in proofs/Examples.antt.
+-- delivers. The words are those of secrecy's statement and of the rules' trace. It is proved in proofs/traces/Theorem.antt; that every trace is
+-- such a one, in proofs/traces/Every.antt; two traces that meet the premises stand in proofs/traces/Examples.antt.
 use Prim.Native.Nat.{ℕ, _/_, _%_, _<_}
 use mathlib.Core.Path.{_≡_}
 use mathlib.Core.List.{List, [], _∷_, _++_}
