@@ -1,6 +1,6 @@
 -- One lemma for each way out of the functions. Assumes nothing.
 use mathlib.Core.Path.{_≡_, refl, sym, ap, ap₂, subst, _∙_}
-use mathlib.Core.Bool.{Bool, true, false, not, _&&_}
+use mathlib.Core.Bool.{Bool, true, false, not, _&&_, and-true, and-false}
 use mathlib.Core.List.{List, [], _++_}
 use Prim.Native.Nat.{ℕ}
 use lib.ListN.{length, take, drop}
@@ -15,14 +15,13 @@ use Rattle.rules.specs.Settings.{acceptable}
 use Rattle.rules.specs.Step.{aReadWaits, setOn}
 use Rattle.input.specs.declared.Input.{Input}
 use Rattle.input.specs.Contract.{Within, fitted, Sound}
-use Rattle.input.proofs.Laws.{fitted-within}
 use Rattle.output.specs.declared.Output.{Output}
-use Rattle.port.specs.State.{capacity, get}
+use Rattle.port.specs.State.{capacity, placeBytes, placeMarks, get}
 use Rattle.port.specs.declared.Port.{Port}
 use Rattle.port.specs.declared.Answered.{Answered}
 use Rattle.input.specs.canonical.Contract.{GoesOff, GoesOn}
 use Rattle.port.specs.Calls.{stepOf}
-use Rattle.port.proofs.Calls.{bytes-long, marks-long, both-long}
+use Rattle.port.proofs.Calls.{bytes-long, marks-long}
 use Rattle.discipline.specs.changes.Contract.{Changes, resumed, withSettings, Changed, Sets}
 
 ---- change_input
@@ -49,14 +48,6 @@ module _ (i : Input) (bs ms : List ℕ) (was is : Bool) where
 ---- change_output
 
 module _ (o : Output) (was is : Bool) where
-  and-true : (t : Bool) → t ≡ (t && true)
-  and-true true = refl
-  and-true false = refl
-
-  and-false : (t : Bool) → false ≡ (t && false)
-  and-false true = refl
-  and-false false = refl
-
   abbrev stoppedAs : Bool → Output
   stoppedAs t = record { queue = o .queue; column = o .column; stopped = t }
 
@@ -64,26 +55,17 @@ module _ (o : Output) (was is : Bool) where
   same-stop u e = ap (λ (y : Bool). stoppedAs (o .stopped && y)) (sym e)
 
   pub output-on : was ≡ true → is ≡ true → o ≡ resumed was is o
-  output-on e f = ap stoppedAs (and-true (o .stopped)) ∙ same-stop true (ap₂ (λ (y z : Bool). not (y && not z)) e f)
+  output-on e f = ap stoppedAs (sym (and-true (o .stopped))) ∙ same-stop true (ap₂ (λ (y z : Bool). not (y && not z)) e f)
 
   pub output-off : (r : Output) → was ≡ true → is ≡ false → r ≡ stoppedAs false → r ≡ resumed was is o
-  output-off r e f h = h ∙ ap stoppedAs (and-false (o .stopped)) ∙ same-stop false (ap₂ (λ (y z : Bool). not (y && not z)) e f)
+  output-off r e f h = h ∙ ap stoppedAs (sym (and-false (o .stopped))) ∙ same-stop false (ap₂ (λ (y z : Bool). not (y && not z)) e f)
 
   pub output-stays : was ≡ false → o ≡ resumed was is o
-  output-stays e = ap stoppedAs (and-true (o .stopped)) ∙ same-stop true (ap (λ (y : Bool). not (y && not is)) e)
+  output-stays e = ap stoppedAs (sym (and-true (o .stopped))) ∙ same-stop true (ap (λ (y : Bool). not (y && not is)) e)
 
 ---- set
 
 module _ (p : Port) (bs ms : List ℕ) where
-  pub fitted-sound : (f : Input) (n : ℕ) → n ≡ capacity bs ms → f ≡ fitted n (p .input) → Sound f (take n bs) (take n ms)
-  fitted-sound f n en ef =
-      subst (λ (y : Input). Sound y (take n bs) (take n ms)) (sym ef)
-      (subst (λ (k : ℕ). Sound (fitted k (p .input)) (take k bs) (take k ms)) (sym en)
-      (record {
-        same = both-long p bs ms [];
-        within = subst (λ (k : ℕ). Within (fitted (capacity bs ms) (p .input)) k) (sym (bytes-long bs ms)) (fitted-within (capacity bs ms) (p .input));
-      }))
-
   module _ (x : Settings) (a : Answered) (t : Bool) (et : t ≡ aReadWaits (p .waiting)) where
     abbrev s : State
     s = get p bs ms []
@@ -136,7 +118,7 @@ module _ (p : Port) (bs ms : List ℕ) where
           wide : length ns ≡ N
           wide = subst (λ (k : ℕ). length ns ≡ length (take k ms)) en ln ∙ marks-long bs ms
 
-          there : Changes (p .settings .icanon) (x .icanon) (fitted N (p .input)) (take N bs) (take N ms) i cs ns
+          there : Changes (p .settings .icanon) (x .icanon) (fitted N (p .input)) (placeBytes bs ms) (placeMarks bs ms) i cs ns
           there =
               subst (λ (k : ℕ). Changes (p .settings .icanon) (x .icanon) (fitted k (p .input)) (take k bs) (take k ms) i cs ns) en
               (subst (λ (y : Input). Changes (p .settings .icanon) (x .icanon) y (take n bs) (take n ms) i cs ns) ef h)
@@ -146,10 +128,10 @@ module _ (p : Port) (bs ms : List ℕ) where
               record {
                 port = refl;
                 input =
-                    subst (λ (y : List ℕ). Changes (p .settings .icanon) (x .icanon) (fitted N (p .input)) (take N bs) (take N ms) i y
+                    subst (λ (y : List ℕ). Changes (p .settings .icanon) (x .icanon) (fitted N (p .input)) (placeBytes bs ms) (placeMarks bs ms) i y
                     (take N (ns ++ drop N ms)))
                     (sym (take-at cs (drop N bs) N long))
-                    (subst (λ (y : List ℕ). Changes (p .settings .icanon) (x .icanon) (fitted N (p .input)) (take N bs) (take N ms) i cs y)
+                    (subst (λ (y : List ℕ). Changes (p .settings .icanon) (x .icanon) (fitted N (p .input)) (placeBytes bs ms) (placeMarks bs ms) i cs y)
                     (sym (take-at ns (drop N ms) N wide)) there);
                 bytes = drop-at cs (drop N bs) N long;
                 marks = drop-at ns (drop N ms) N wide;

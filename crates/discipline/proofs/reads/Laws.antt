@@ -1,6 +1,6 @@
 -- A read that takes nothing, and one that is done. Assumes nothing.
 use mathlib.Core.Path.{_≡_, refl, sym, ap, subst, _∙_}
-use mathlib.Core.Bool.{Bool, true, false, cond, not, _||_}
+use mathlib.Core.Bool.{Bool, true, false, cond, _||_}
 use mathlib.Core.List.{List, [], _∷_}
 use Prim.Native.Nat.{ℕ, _+_, _-_, _%_}
 use native.Mathlib.Omega.{arith}
@@ -16,7 +16,7 @@ use Rattle.input.specs.Contract as input
 use Rattle.input.specs.declared.Input.{Input}
 use Rattle.input.specs.reading.Contract as reading
 use Rattle.input.specs.declared.reading.Taken.{Taken}
-use Rattle.port.specs.State.{get, capacity}
+use Rattle.port.specs.State.{get, capacity, placeBytes, placeMarks}
 use Rattle.port.specs.Sending.{refused}
 use Rattle.port.specs.declared.Port.{Port}
 use Rattle.port.specs.declared.Answered.{Answered}
@@ -24,12 +24,13 @@ use Rattle.port.specs.Layers.{assembled}
 use Rattle.port.proofs.Layers.{input-stays}
 use Rattle.discipline.specs.reads.Contract.{stateOf, took, ReadsFrom, finds, Reads}
 use lib.Dec.{eqb, ltb}
-use borrow.Author.Tests.{eq-eqb, ne-eqb, lt-ltb}
+use borrow.Author.Tests.{eq-eqb, ne-eqb}
 use Rattle.rules.specs.declared.Refusal.the-variants.{Nothing, ReadWaits}
 use Rattle.rules.specs.declared.Settings.{Settings}
-use Rattle.input.proofs.Laws.{finished-length, fitted-within, fitted-same}
+use Rattle.input.proofs.Laws.{finished-length}
 use Rattle.output.specs.Contract as output
-use Rattle.port.proofs.Calls.{bytes-long, marks-long}
+use Rattle.port.proofs.Calls.{fitted-reads}
+use Rattle.waiting.proofs.Laws.{some}
 use Rattle.rules.specs.declared.Call.the-variants.{Cancel}
 use Rattle.port.specs.Calls.{stepOf, cancelled}
 
@@ -86,7 +87,8 @@ module _ (p : Port) (i : Input) (bs ms d : List ℕ) (h : input.Sound i bs ms) w
       }
 
   -- a part is given
-  given : (t : rule.Part) (k : Taken) (q : Port) (r : Answered) (d′ : List ℕ) → reading.ReadsPart i bs ms d t k d′ → q ≡ assembled p (k .input) (p .output) Idle
+  given : (t : rule.Part) (k : Taken) (q : Port) (r : Answered) (d′ : List ℕ) → reading.ReadsPart i bs ms d t k d′
+      → q ≡ assembled p (k .input) (p .output) Idle
       → r ≡ record { port = q; answer = record { outcome = Ok; count = k .count } } → ReadsFrom p i bs ms d (rule.finish s t) r d′
   given t k q r d′ b eq er =
       record {
@@ -118,10 +120,6 @@ module _ (p : Port) (i : Input) (bs ms d : List ℕ) (h : input.Sound i bs ms) w
   empty-by [] = refl
   empty-by (q ∷ l) = ne-eqb (length (q ∷ l)) 0 (λ e. omega arith)
 
-  some-by : (l : List Place) → ltb 0 (length l) ≡ not (rule.isEmpty l)
-  some-by [] = refl
-  some-by (q ∷ l) = lt-ltb 0 (length (q ∷ l)) (omega arith)
-
   is-empty : eqb (i .ready) 0 ≡ rule.isEmpty (input.get i bs ms .finished)
   is-empty = ap (λ (n : ℕ). eqb n 0) (sym ready) ∙ empty-by (input.get i bs ms .finished)
 
@@ -133,7 +131,7 @@ module _ (p : Port) (i : Input) (bs ms d : List ℕ) (h : input.Sound i bs ms) w
       l = input.get i bs ms .finished
 
       by : (c : Bool) → cond c (ltb 0 (length l)) (rule.enough (p .settings) n (length l) || rule.expired (p .waiting)) ≡ rule.doneOn c s n
-      by true = some-by l
+      by true = sym (some l (length l) refl)
       by false = refl
 
   -- by the tests
@@ -218,18 +216,8 @@ module _ (p : Port) (i : Input) (bs ms d : List ℕ) (h : input.Sound i bs ms) w
 ---- The call
 
 module _ (p : Port) (bs ms : List ℕ) where
-  pub sound-places : (f : Input) (n : ℕ) → n ≡ capacity bs ms → f ≡ input.fitted n (p .input) → input.Sound f (take n bs) (take n ms)
-  sound-places f n en ef =
-      subst (λ (y : Input). input.Sound y (take n bs) (take n ms)) (sym ef)
-      (subst (λ (k : ℕ). input.Sound (input.fitted k (p .input)) (take k bs) (take k ms)) (sym en)
-      (record {
-        same = bytes-long bs ms ∙ sym (marks-long bs ms);
-        within = subst (λ (k : ℕ). input.Within (input.fitted (capacity bs ms) (p .input)) k) (sym (bytes-long bs ms))
-            (fitted-within (capacity bs ms) (p .input));
-      }))
-
   -- the state of the layers below is what get reads
-  pub there : stateOf p (input.fitted (capacity bs ms) (p .input)) (take (capacity bs ms) bs) (take (capacity bs ms) ms) ≡ get p bs ms []
+  pub there : stateOf p (input.fitted (capacity bs ms) (p .input)) (placeBytes bs ms) (placeMarks bs ms) ≡ get p bs ms []
   unfolding get
   there =
       ap (λ (y : RuledInput). record {
@@ -241,14 +229,13 @@ module _ (p : Port) (bs ms : List ℕ) where
             p .hung;
         waiting = p .waiting;
       })
-      (ap (λ (k : ℕ). input.get (input.fitted k (p .input)) (take (capacity bs ms) bs) (take (capacity bs ms) ms)) (sym (bytes-long bs ms))
-      ∙ fitted-same (p .input) (take (capacity bs ms) bs) (take (capacity bs ms) ms) (bytes-long bs ms ∙ sym (marks-long bs ms)))
+      (fitted-reads bs ms p)
 
   pub read-of : (f : Input) (n : ℕ) (d d′ : List ℕ) (nonblocking : Bool) (r : Answered) → n ≡ capacity bs ms → f ≡ input.fitted n (p .input)
       → ReadsFrom p f (take n bs) (take n ms) d (rule.read (stateOf p f (take n bs) (take n ms)) nonblocking (length d)) r d′
       → Reads p bs ms d nonblocking r d′
   read-of f n d d′ nonblocking r en ef t =
-      as-read p (input.fitted (capacity bs ms) (p .input)) (take (capacity bs ms) bs) (take (capacity bs ms) ms) d r d′
+      as-read p (input.fitted (capacity bs ms) (p .input)) (placeBytes bs ms) (placeMarks bs ms) d r d′
       (ap (λ (y : State). rule.read y nonblocking (length d)) there)
       (subst (λ (k : ℕ). ReadsFrom p (input.fitted k (p .input)) (take k bs) (take k ms) d
       (rule.read (stateOf p (input.fitted k (p .input)) (take k bs) (take k ms)) nonblocking (length d)) r d′) en

@@ -14,7 +14,7 @@ returns : tie.Need-returns
 returns c =
     let at-too-large = c .before .before .too-large in
     let start = c .before .before .before in
-    judged-large (start .args .p) (start .args .who) (start .args .v) (c .says .result) (at-too-large .result) (at-too-large .ensures) (c .before .if1 .taken)
+    judged-large (start .args .p) (start .args .who) (start .args .verdict) (c .says .result) (at-too-large .result) (at-too-large .ensures) (c .before .if1 .taken)
     (c .says .ensures)
 
 says-requires-2 : tie.Need-says-requires-2
@@ -25,7 +25,7 @@ returns-2 c =
     let at-if1 = c .before .before .if1 in
     let at-too-large = c .before .before .before .too-large in
     let start = c .before .before .before .before in
-    judged-none (start .args .p) (start .args .who) (start .args .v) (c .says2 .result) (at-too-large .result) (at-too-large .ensures) (at-if1 .left)
+    judged-none (start .args .p) (start .args .who) (start .args .verdict) (c .says2 .result) (at-too-large .result) (at-too-large .ensures) (at-if1 .left)
     (c .before .if2 .taken) (c .says2 .ensures)
 
 says-requires-3 : tie.Need-says-requires-3
@@ -36,7 +36,7 @@ returns-3 c =
     let at-if1 = c .before .before .if1 in
     let at-too-large = c .before .before .before .too-large in
     let start = c .before .before .before .before in
-    judged-given (start .args .p) (start .args .who) (start .args .v) (c .says3 .result) (at-too-large .result) (at-too-large .ensures) (at-if1 .left)
+    judged-given (start .args .p) (start .args .who) (start .args .verdict) (c .says3 .result) (at-too-large .result) (at-too-large .ensures) (at-if1 .left)
     (c .before .if2 .left) (c .says3 .ensures)
 
 pub judged-spec : {M : Type 1} → statement M
