@@ -13,10 +13,10 @@ use rules::Process;
 use rules::Refusal;
 use rules::Verdict;
 
-fn with_group(p: Port, g: Group) -> Port
-    ensures { λ r. ⌜ r ≡ withGroup p g ⌝ }
+fn with_group(p: Port, foreground: Group) -> Port
+    ensures { λ r. ⌜ r ≡ withGroup p foreground ⌝ }
 {
-    Port { foreground: g, ..p }
+    Port { foreground: foreground, ..p }
 }
 
 // 'a foreground group: none, or a number 1..2,147,483,647 with an orphaned mark'

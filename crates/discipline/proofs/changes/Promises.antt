@@ -44,8 +44,8 @@ one-left true p bs ms x r q bs′ ms′ cs ns h k = (h .0 ∙ sym (k .0), h .1 �
 one-left false p bs ms x r q bs′ ms′ cs ns h k =
     let n : ℕ = capacity bs ms in
     let same =
-    one-change (p .settings .icanon) (x .icanon) (input.fitted n (p .input)) (placeBytes bs ms) (placeMarks bs ms) (r .input) (q .input) (take n bs′) (take n ms′)
-    (take n cs) (take n ns) (h .input) (k .input) in (
+    one-change (p .settings .icanon) (x .icanon) (input.fitted n (p .input)) (placeBytes bs ms) (placeMarks bs ms) (r .input) (q .input)
+    (take n bs′) (take n ms′) (take n cs) (take n ns) (h .input) (k .input) in (
       h .port
           ∙ ap (λ (y : Input). withSettings p x y (resumed (p .settings .ixon) (x .ixon) (p .output))) (same .0)
           ∙ sym (k .port),
@@ -88,10 +88,9 @@ unfolding get output.get
 changed-now p r bs ms os x bs′ ms′ h =
     let N : ℕ = capacity bs ms in
     let f : Input = input.fitted N (p .input) in
-    let a : After (changedInput (p .settings .icanon) (x .icanon) (input.get f (placeBytes bs ms) (placeMarks bs ms))) (placeBytes bs ms) (placeMarks bs ms) (r .input) (take N bs′)
-    (take N ms′) =
-    change-after (p .settings .icanon) (x .icanon) f (r .input) (placeBytes bs ms) (placeMarks bs ms) (take N bs′) (take N ms′) (fitted-sound bs ms p f N refl refl)
-    (h .input) in
+    let a =
+    change-after (p .settings .icanon) (x .icanon) f (r .input) (placeBytes bs ms) (placeMarks bs ms) (take N bs′) (take N ms′)
+    (fitted-sound bs ms p f N refl refl) (h .input) in
     let lb : length bs′ ≡ length bs = long-again N bs′ bs (a .bytes) (h .bytes) in
     let lm : length ms′ ≡ length ms = long-again N ms′ ms (a .marks) (h .marks) in
     let n : capacity bs′ ms′ ≡ N = ap₂ min lb lm in
@@ -101,7 +100,8 @@ changed-now p r bs ms os x bs′ ms′ h =
           same-state (r .settings) (w .settings) (input.get (r .input) (placeBytes bs′ ms′) (placeMarks bs′ ms′)) (w .input)
           (output.get (r .output) os) (w .output) (r .foreground) (w .foreground) (r .hung) (w .hungUp) (r .waiting) (w .waiting)
           (ap (λ (y : Port). y .settings) (h .port))
-          (ap (λ (k : ℕ). input.get (r .input) (take k bs′) (take k ms′)) n ∙ a .meaning ∙ ap (changedInput (p .settings .icanon) (x .icanon)) (fitted-reads bs ms p))
+          (ap (λ (k : ℕ). input.get (r .input) (take k bs′) (take k ms′)) n ∙ a .meaning
+          ∙ ap (changedInput (p .settings .icanon) (x .icanon)) (fitted-reads bs ms p))
           (ap (λ (y : Port). output.get (y .output) os) (h .port)) (ap (λ (y : Port). y .foreground) (h .port)) (ap (λ (y : Port). y .hung) (h .port))
           (ap (λ (y : Port). y .waiting) (h .port));
       sizes =

@@ -52,17 +52,15 @@ module _ (p : Port) (bs ms os : List ℕ) where
       same : steps.received z s e ≡ steps.received (sizes p bs ms os) (get p bs ms os) e
       same = ap₂ (λ (y : Sizes) (v : State). steps.received y v e) (there p bs ms os) (here p bs ms os)
 
+      -- what the event comes to on the port y and the first k places
+      By : Port → ℕ → Type 0
+      By y k =
+          Answers y (take k bs) (take k ms) os (steps.received (sizesOf y (length (take k bs)) (length os)) (state y (take k bs) (take k ms) os) e) r cs ns os′
+
       given : Answers (within p bs ms os) (placeBytes bs ms) (placeMarks bs ms) os (steps.received z s e) r cs ns os′
       given =
-          subst (λ (k : ℕ). Answers (ranged p k (length os)) (placeBytes bs ms) (placeMarks bs ms) os (steps.received (sizesOf (ranged p k (length os)) (length (placeBytes bs ms)) (length os))
-          (state (ranged p k (length os)) (placeBytes bs ms) (placeMarks bs ms) os) e) r cs ns os′)
-          (sym (bytes-long bs ms))
-          (subst (λ (k : ℕ). Answers (ranged p k (length os)) (take k bs) (take k ms) os
-          (steps.received (sizesOf (ranged p k (length os)) (length (take k bs)) (length os)) (state (ranged p k (length os)) (take k bs) (take k ms) os) e) r
-          cs ns os′)
-          en
-          (subst (λ (y : Port). Answers y (take n bs) (take n ms) os
-          (steps.received (sizesOf y (length (take n bs)) (length os)) (state y (take n bs) (take n ms) os) e) r cs ns os′) eq h))
+          subst (λ (k : ℕ). By (ranged p k (length os)) N) (sym (bytes-long bs ms))
+          (subst (λ (k : ℕ). By (ranged p k (length os)) k) en (subst (λ (y : Port). By y n) eq h))
 
       long : length cs ≡ length (placeBytes bs ms)
       long = subst (λ (k : ℕ). length cs ≡ length (take k bs)) en lc

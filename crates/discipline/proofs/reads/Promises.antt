@@ -154,11 +154,14 @@ module _ (p : Port) (bs ms os d : List ℕ) (nonblocking : Bool) where
   abbrev w₀ : State × Reply
   w₀ = stepOf p bs ms [] (Read nonblocking) d
 
+  abbrev took₀ : Port
+  took₀ = took p i₀ (placeBytes bs ms) (placeMarks bs ms) (w₀ .0)
+
   fine : Fine p i₀ (placeBytes bs ms) (placeMarks bs ms) w₀
   fine =
       subst (λ (y : State). Fine p i₀ (placeBytes bs ms) (placeMarks bs ms) (rule.read y nonblocking (length d))) (there p bs ms)
-      (read-fine p i₀ (placeBytes bs ms) (placeMarks bs ms) d (fitted-sound bs ms p i₀ N refl refl) (p .hung) (rule.clashes (p .waiting) nonblocking (length d)) (eqb (length d) 0)
-      nonblocking)
+      (read-fine p i₀ (placeBytes bs ms) (placeMarks bs ms) d (fitted-sound bs ms p i₀ N refl refl) (p .hung)
+      (rule.clashes (p .waiting) nonblocking (length d)) (eqb (length d) 0) nonblocking)
 
   alike : (stepOf p bs ms os (Read nonblocking) d .0 ≡ withOutput (w₀ .0) (output.get (p .output) os)) × (stepOf p bs ms os (Read nonblocking) d .1 ≡ w₀ .1)
   unfolding get
@@ -167,15 +170,15 @@ module _ (p : Port) (bs ms os d : List ℕ) (nonblocking : Bool) where
       nonblocking
 
   -- by whether it is refused
-  left : (t : Bool) → refused (w₀ .1 .answer) ≡ t → get (cond t p (took p i₀ (placeBytes bs ms) (placeMarks bs ms) (w₀ .0))) bs ms os ≡ withOutput (w₀ .0) (output.get (p .output) os)
+  left : (t : Bool) → refused (w₀ .1 .answer) ≡ t → get (cond t p took₀) bs ms os ≡ withOutput (w₀ .0) (output.get (p .output) os)
   unfolding get
   left true e = ap (λ (y : State). withOutput y (output.get (p .output) os)) (sym (there p bs ms) ∙ sym (fine .kept e))
   left false e =
-      same-state (p .settings) (w₀ .0 .settings) (input.get (took p i₀ (placeBytes bs ms) (placeMarks bs ms) (w₀ .0) .input) (placeBytes bs ms) (placeMarks bs ms)) (w₀ .0 .input)
+      same-state (p .settings) (w₀ .0 .settings) (input.get (took₀ .input) (placeBytes bs ms) (placeMarks bs ms)) (w₀ .0 .input)
       (output.get (p .output) os) (output.get (p .output) os) (p .foreground) (w₀ .0 .foreground) (p .hung) (w₀ .0 .hungUp) (w₀ .0 .waiting) (w₀ .0 .waiting)
       (sym (fine .settings)) (fine .input) refl (sym (fine .foreground)) (sym (fine .hung)) refl
 
-  same-sizes : (t : Bool) → sizes (cond t p (took p i₀ (placeBytes bs ms) (placeMarks bs ms) (w₀ .0))) bs ms os ≡ sizes p bs ms os
+  same-sizes : (t : Bool) → sizes (cond t p took₀) bs ms os ≡ sizes p bs ms os
   same-sizes true = refl
   same-sizes false = refl
 

@@ -13,10 +13,7 @@ judged-requires c κs = search needs
 
 returns : tie.Need-returns
 unfolding get
-returns c =
-    let start = c .before .before in
-    verdict-of (start .args .p) (start .args .who) (c .before .settings-verdict .result) (c .before .settings-verdict .ensures) (c .judged .result)
-    (c .judged .ensures)
+returns c = cc
 
 pub settings-verdict-spec : {M : Type 1} → statement M
 settings-verdict-spec = tie.close (tie.spec settings-verdict-requires judged-requires returns)

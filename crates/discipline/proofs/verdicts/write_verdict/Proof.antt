@@ -13,10 +13,7 @@ judged-requires c κs = search needs
 
 returns : tie.Need-returns
 unfolding get
-returns c =
-    let start = c .before .before .before in
-    verdict-of (start .args .p) (start .args .who) (c .before .write-verdict .result) (c .before .write-verdict .ensures) (c .judged .result)
-    (c .judged .ensures)
+returns c = cc
 
 pub write-verdict-spec : {M : Type 1} → statement M
 write-verdict-spec = tie.close (tie.spec write-verdict-requires judged-requires returns)
