@@ -16,7 +16,10 @@ use rules::Verdict;
 fn with_group(p: Port, foreground: Group) -> Port
     ensures { λ r. ⌜ r ≡ withGroup p foreground ⌝ }
 {
-    Port { foreground: foreground, ..p }
+    Port {
+        foreground: foreground,
+        ..p
+    }
 }
 
 // 'a foreground group: none, or a number 1..2,147,483,647 with an orphaned mark'

@@ -26,27 +26,15 @@ use Rattle.discipline.specs.reads.Contract.{stateOf, took, ReadsFrom, fi
 use lib.Dec.{eqb, ltb}
 use borrow.Author.Tests.{eq-eqb, ne-eqb}
 use Rattle.rules.specs.declared.Refusal.the-variants.{Nothing, ReadWaits}
-use Rattle.rules.specs.declared.Settings.{Settings}
 use Rattle.input.proofs.Laws.{finished-length}
 use Rattle.output.specs.Contract as output
 use Rattle.port.proofs.Calls.{fitted-reads}
 use Rattle.waiting.proofs.Laws.{some}
-use Rattle.rules.specs.declared.Call.the-variants.{Cancel}
-use Rattle.port.specs.Calls.{stepOf, cancelled}
 
 -- the answer by another name
 pub as-read : {v w : State × Reply} (p : Port) (i : Input) (bs ms d : List ℕ) (r : Answered) (d′ : List ℕ) → v ≡ w → ReadsFrom p i bs ms d v r d′
     → ReadsFrom p i bs ms d w r d′
 as-read p i bs ms d r d′ e t = subst (λ (y : State × Reply). ReadsFrom p i bs ms d y r d′) e t
-
----- When a read finds what it asks for
-
-module _ (x : Settings) (k : ℕ) (w : Waiting) (n : ℕ) where
-  pub finds-line : x .icanon ≡ true → ltb 0 k ≡ finds x k w n
-  finds-line c = ap (λ (y : Bool). cond y (ltb 0 k) (rule.enough x n k || rule.expired w)) (sym c)
-
-  pub finds-bytes : (a b : Bool) → x .icanon ≡ false → (a || b) ≡ (rule.enough x n k || rule.expired w) → (a || b) ≡ finds x k w n
-  finds-bytes a b c e = e ∙ ap (λ (y : Bool). cond y (ltb 0 k) (rule.enough x n k || rule.expired w)) (sym c)
 
 ---- One lemma for each way out
 
@@ -240,10 +228,3 @@ module _ (p : Port) (bs ms : List ℕ) where
       (subst (λ (k : ℕ). ReadsFrom p (input.fitted k (p .input)) (take k bs) (take k ms) d
       (rule.read (stateOf p (input.fitted k (p .input)) (take k bs) (take k ms)) nonblocking (length d)) r d′) en
       (subst (λ (y : Input). ReadsFrom p y (take n bs) (take n ms) d (rule.read (stateOf p y (take n bs) (take n ms)) nonblocking (length d)) r d′) ef t))
-
----- Cancel
-
-pub cancel-of : (p q : Port) (a : Answered) → q ≡ assembled p (p .input) (p .output) Idle
-    → a ≡ record { port = q; answer = record { outcome = Ok; count = 0 } }
-    → a ≡ cancelled p (stepOf p [] [] [] Cancel [])
-cancel-of p q a eq ea = ea ∙ ap (λ (y : Port). record { port = y; answer = record { outcome = Ok; count = 0 } }) eq

@@ -1,5 +1,4 @@
 -- `discipline::reads::cancel` meets its contract. Assumes nothing.
-use Rattle.discipline.proofs.reads.Laws.{cancel-of}
 use borrow.Author.Needs.{needs}
 use Rattle.discipline.proofs.reads.cancel.Statement.{statement}
 use Rattle.discipline.proofs.reads.cancel.Tie as tie
