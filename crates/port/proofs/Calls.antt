@@ -1,7 +1,7 @@
 -- From the port in range to the port, and from its places to the slices. Assumes nothing.
 use mathlib.Core.Path.{_≡_, refl, sym, ap, ap₂, subst, _∙_}
 use mathlib.Core.List.{List, _++_, map}
-use Prim.Native.Nat.{ℕ, _+_, _%_, _≤_, min}
+use Prim.Native.Nat.{ℕ, _+_, _%_, min}
 use native.Mathlib.Nat.{mod-mod}
 use native.Mathlib.Omega.{arith}
 use lib.ListN.{length, take, drop, take-append-drop}
@@ -26,17 +26,11 @@ use Rattle.port.specs.Calls.{Leaves, Asks, ranged}
 ---- The places of the input
 
 module _ (bs ms : List ℕ) where
-  pub first-places : capacity bs ms ≤ length bs
-  first-places = omega arith
-
-  pub second-places : capacity bs ms ≤ length ms
-  second-places = omega arith
-
   pub bytes-long : length (placeBytes bs ms) ≡ capacity bs ms
-  bytes-long = length-take-le (capacity bs ms) bs first-places
+  bytes-long = length-take-le (capacity bs ms) bs (omega arith)
 
   pub marks-long : length (placeMarks bs ms) ≡ capacity bs ms
-  marks-long = length-take-le (capacity bs ms) ms second-places
+  marks-long = length-take-le (capacity bs ms) ms (omega arith)
 
   pub both-long : length (placeBytes bs ms) ≡ length (placeMarks bs ms)
   both-long = bytes-long ∙ sym marks-long
@@ -62,14 +56,14 @@ range-again n o =
     let m : min (o .queue .len) n ≡ min (min (o .queue .len) n) n = omega arith in
     λ i. record { queue = record { head = sym (mod-mod (o .queue .head) n) i; len = m i }; column = o .column; stopped = o .stopped }
 
-pub ranged-in : (p : Port) (n m : ℕ) → Ranged (ranged p n m) n m
+ranged-in : (p : Port) (n m : ℕ) → Ranged (ranged p n m) n m
 ranged-in p n m = record { input = fitted-within n (p .input); output = range-again m (p .output) }
 
 module _ (p : Port) (bs ms os : List ℕ) (e : length bs ≡ length ms) where
   abbrev q : Port
   q = ranged p (length bs) (length os)
 
-  pub ranged-state : state q bs ms os ≡ state p bs ms os
+  ranged-state : state q bs ms os ≡ state p bs ms os
   ranged-state =
       ap₂ (λ (i : RuledInput) (o : RuledOutput). record {
         settings = p .settings;
@@ -82,7 +76,7 @@ module _ (p : Port) (bs ms os : List ℕ) (e : length bs ≡ length ms) where
       })
       (fitted-same (p .input) bs ms e) (queued.get-range (p .output) os)
 
-  pub ranged-becomes : (w : State) (r : Port) (bs′ ms′ os′ : List ℕ) → Becomes q bs ms os w r bs′ ms′ os′ → Becomes p bs ms os w r bs′ ms′ os′
+  ranged-becomes : (w : State) (r : Port) (bs′ ms′ os′ : List ℕ) → Becomes q bs ms os w r bs′ ms′ os′ → Becomes p bs ms os w r bs′ ms′ os′
   ranged-becomes w r bs′ ms′ os′ b =
       let h : ℕ = p .input .queue .head in
       let same : input.get (q .input) bs ms ≡ input.get (p .input) bs ms = fitted-same (p .input) bs ms e in

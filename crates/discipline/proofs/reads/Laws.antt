@@ -1,4 +1,4 @@
--- A read that takes nothing, and one that is done. Assumes nothing.
+-- One lemma for each way out of the functions of a read. Assumes nothing.
 use mathlib.Core.Path.{_≡_, refl, sym, ap, subst, _∙_}
 use mathlib.Core.Bool.{Bool, true, false, cond, _||_}
 use mathlib.Core.List.{List, [], _∷_}
@@ -32,7 +32,7 @@ use Rattle.port.proofs.Calls.{fitted-reads}
 use Rattle.waiting.proofs.Laws.{some}
 
 -- the answer by another name
-pub as-read : {v w : State × Reply} (p : Port) (i : Input) (bs ms d : List ℕ) (r : Answered) (d′ : List ℕ) → v ≡ w → ReadsFrom p i bs ms d v r d′
+as-read : {v w : State × Reply} (p : Port) (i : Input) (bs ms d : List ℕ) (r : Answered) (d′ : List ℕ) → v ≡ w → ReadsFrom p i bs ms d v r d′
     → ReadsFrom p i bs ms d w r d′
 as-read p i bs ms d r d′ e t = subst (λ (y : State × Reply). ReadsFrom p i bs ms d y r d′) e t
 
@@ -50,7 +50,7 @@ module _ (p : Port) (i : Input) (bs ms d : List ℕ) (h : input.Sound i bs ms) w
       b .input ∙ ap (λ (y : ℕ). input.put (input.get i bs ms) (y % length bs)) k
 
   -- nothing is taken; the waiting read is w
-  pub none-taken : (w : Waiting) (o : Outcome) (q : Port) (r : Answered) → refused (record { outcome = o; count = 0 }) ≡ false
+  none-taken : (w : Waiting) (o : Outcome) (q : Port) (r : Answered) → refused (record { outcome = o; count = 0 }) ≡ false
       → q ≡ assembled p i (p .output) w
       → r ≡ record { port = q; answer = record { outcome = o; count = 0 } } → ReadsFrom p i bs ms d (withWaiting s w, says o 0) r d
   none-taken w o q r kept eq er =
@@ -64,7 +64,7 @@ module _ (p : Port) (i : Input) (bs ms d : List ℕ) (h : input.Sound i bs ms) w
             ∙ ap (λ (y : Bool). cond y p (took p i bs ms (withWaiting s w))) (sym kept);
       }
 
-  pub refused-of : (o : Outcome) (r : Answered) → refused (record { outcome = o; count = 0 }) ≡ true
+  refused-of : (o : Outcome) (r : Answered) → refused (record { outcome = o; count = 0 }) ≡ true
       → r ≡ record { port = p; answer = record { outcome = o; count = 0 } }
       → ReadsFrom p i bs ms d (s, says o 0) r d
   refused-of o r kept er =

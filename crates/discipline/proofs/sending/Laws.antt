@@ -134,7 +134,7 @@ sent-of p q os d d′ r a b eq e =
       answer = record { outcome = Ok; count = b .count i };
     })
 
----- Laws of a write that goes on from the rest. Assumes nothing
+---- Laws of a write that goes on from the rest
 
 ---- A write that goes on from the rest
 
