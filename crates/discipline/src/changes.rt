@@ -1,4 +1,4 @@
-// Document 01, 'Settings': 'New settings', for every value of port and slices.
+// Document 01, 'Settings': 'New settings', for every value of port and slices: what becomes of the stored input and of stopped output.
 ghost use mathlib.Core.Path.{_≡_};
 ghost use mathlib.Core.List.{[]};
 ghost use Rattle.rules.specs.Lent.{before, after};
@@ -49,16 +49,11 @@ fn change_output(o: Output, was: bool, is: bool) -> Output
 fn with_settings(p: Port, x: Settings, input: Input, output: Output) -> Port
     ensures { λ r. ⌜ r ≡ withSettings p x input output ⌝ }
 {
-    let foreground = p.foreground;
-    let waiting = p.waiting;
     Port {
         settings: x,
-        line: p.line,
         input: input,
         output: output,
-        foreground: foreground,
-        hung: p.hung,
-        waiting: waiting,
+        ..p
     }
 }
 
@@ -75,8 +70,14 @@ pub fn set(p: Port, bytes: &mut [u8], marks: &mut [u8], x: Settings) -> Answered
         let old = p.settings;
         let i = p.input;
         let o = p.output;
-        let f = i.fit(n);
-        let input = change_input(f, &mut bytes[..n], &mut marks[..n], old.icanon, x.icanon);
+        let fitted = i.fit(n);
+        let input = change_input(
+            fitted,
+            &mut bytes[..n],
+            &mut marks[..n],
+            old.icanon,
+            x.icanon,
+        );
         let output = change_output(o, old.ixon, x.ixon);
         return port::says(with_settings(p, x, input, output), Outcome::Ok, 0);
     }

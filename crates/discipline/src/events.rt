@@ -1,7 +1,5 @@
-// Document 01, 'Received events', for every value of port and slices: one call that takes the event.
-// Document 01, 'Received events': one call for each event that brings a byte.
-// Document 01, 'Received events': one call for each event that brings no byte: break, tick, hangup.
-// Document 01, a flush by its choice, for every value of port and slices.
+// Document 01, 'Received events', for every value of port and slices: one call that takes the event and one for each event; and a flush by its
+// choice.
 ghost use mathlib.Core.Path.{_≡_};
 ghost use mathlib.Core.List.{[]};
 ghost use Rattle.rules.specs.Lent.{before, after};
@@ -35,10 +33,10 @@ pub fn receive(p: Port, bytes: &mut [u8], marks: &mut [u8], out: &mut [u8], e: E
     ensures { λ r. ⌜ Receives p (before bytes) (before marks) (before out) e r (after bytes) (after marks) (after out) ⌝ }
 {
     let n = queue::least(bytes.len(), marks.len());
-    let q = port::in_range(p, n, out.len());
-    let r = received::received(q, &mut bytes[..n], &mut marks[..n], out, e);
-    let port = r.port;
-    let outcome = r.outcome;
+    let ranged = p.in_range(n, out.len());
+    let reported = received::received(ranged, &mut bytes[..n], &mut marks[..n], out, e);
+    let port = reported.port;
+    let outcome = reported.outcome;
     port::says(port, outcome, bytes_in(e))
 }
 
@@ -83,15 +81,15 @@ pub fn flush(p: Port, bytes: &[u8], marks: &[u8], out: &[u8], choice: u8) -> Ans
     ensures { λ r. ⌜ Asks p (before bytes) (before marks) (before out) (stepOf p (before bytes) (before marks) (before out) (Call.Flush choice) []) r ⌝ }
 {
     let n = queue::least(bytes.len(), marks.len());
-    let q = port::in_range(p, n, out.len());
+    let ranged = p.in_range(n, out.len());
     if choice == 1 {
-        return port::says(flushing::flush_input(q, n, out), Outcome::Ok, 0);
+        return port::says(flushing::flush_input(ranged, n, out), Outcome::Ok, 0);
     }
     if choice == 2 {
-        return port::says(q.flush_output(out.len()), Outcome::Ok, 0);
+        return port::says(ranged.flush_output(out.len()), Outcome::Ok, 0);
     }
     if choice == 3 {
-        return port::says(flushing::flush_both(q, n, out), Outcome::Ok, 0);
+        return port::says(flushing::flush_both(ranged, n, out), Outcome::Ok, 0);
     }
     port::says(p, Outcome::Refused(Refusal::OutOfRange), 0)
 }

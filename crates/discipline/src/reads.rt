@@ -1,6 +1,5 @@
-// Document 01, 'Reads': a read is done, what it takes, and no read waits any more.
-// Document 01, 'Reads': what a read finds it takes, or it waits.
-// Document 01, 'Reads': the call, for every value of port and slices. A read is lent no slice of the output.
+// Document 01, 'Reads', for every value of port and slices: what a read finds it takes, or it waits; and cancel. A read is lent no slice of the
+// output.
 ghost use mathlib.Core.Path.{_≡_};
 ghost use Rattle.rules.specs.Lent.{before, after};
 ghost use Rattle.input.specs.Contract.{Sound};
@@ -20,7 +19,7 @@ use rules::Settings;
 use rules::Waiting;
 
 // the port with another input and another waiting read
-pub fn with_read(p: Port, input: Input, waiting: Waiting) -> Port
+fn with_read(p: Port, input: Input, waiting: Waiting) -> Port
     ensures { λ r. ⌜ r ≡ assembled p input (p .output) waiting ⌝ }
 {
     let output = p.output;
@@ -28,19 +27,19 @@ pub fn with_read(p: Port, input: Input, waiting: Waiting) -> Port
 }
 
 // The read is done: no read waits any more.
-pub fn finish(p: Port, i: Input, bytes: &[u8], marks: &[u8], dst: &mut [u8]) -> Answered
+fn finish(p: Port, i: Input, bytes: &[u8], marks: &[u8], dst: &mut [u8]) -> Answered
     requires { ⌜ Sound i (now bytes) (now marks) ⌝ }
     ensures { λ r. ⌜ ReadsBy done p i (before bytes) (before marks) (before dst) r (after dst) ⌝ }
 {
     let x = p.settings;
     if x.icanon {
-        let t = reading::read_line(i, bytes, marks, dst);
-        let left = t.input;
-        return port::says(with_read(p, left, Waiting::Idle), Outcome::Ok, t.count);
+        let taken = reading::read_line(i, bytes, marks, dst);
+        let left = taken.input;
+        return port::says(with_read(p, left, Waiting::Idle), Outcome::Ok, taken.count);
     }
-    let t = reading::read_bytes(i, bytes, dst);
-    let left = t.input;
-    port::says(with_read(p, left, Waiting::Idle), Outcome::Ok, t.count)
+    let taken = reading::read_bytes(i, bytes, dst);
+    let left = taken.input;
+    port::says(with_read(p, left, Waiting::Idle), Outcome::Ok, taken.count)
 }
 
 // A read of n bytes finds what it asks for where so many places are finished.
@@ -58,7 +57,7 @@ fn finds(x: Settings, finished: usize, w: Waiting, n: usize) -> bool
 
 // 'Non-blocking takes that at once .. or gives refusal 3 if no byte is stored; canonical, if no line is finished. Otherwise the
 // answer is "wait".'
-pub fn ruled(
+fn ruled(
     p: Port,
     i: Input,
     bytes: &[u8],
@@ -119,8 +118,8 @@ pub fn read(p: Port, bytes: &[u8], marks: &[u8], dst: &mut [u8], nonblocking: bo
 {
     let n = queue::least(bytes.len(), marks.len());
     let i = p.input;
-    let f = i.fit(n);
-    ordered(p, f, &bytes[..n], &marks[..n], dst, nonblocking)
+    let fitted = i.fit(n);
+    ordered(p, fitted, &bytes[..n], &marks[..n], dst, nonblocking)
 }
 
 // 'Cancel ends a waiting read and moves nothing.'
@@ -129,6 +128,6 @@ pub fn cancel(p: Port) -> Answered
 {
     let input = p.input;
     let output = p.output;
-    let q = port::assemble(p, input, output, Waiting::Idle);
-    port::says(q, Outcome::Ok, 0)
+    let cancelled = port::assemble(p, input, output, Waiting::Idle);
+    port::says(cancelled, Outcome::Ok, 0)
 }

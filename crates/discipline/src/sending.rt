@@ -1,6 +1,4 @@
-// Document 01, 'Output': the call that writes, for every value of port and slice.
-// Document 01, 'Output': the call that transmits, for every value of port and slice.
-// Document 01, 'Output': a write that goes on from the rest, after what transmit hands out.
+// Document 01, 'Output', for every value of port and slice: the calls that write and transmit, and a write that goes on from the rest.
 ghost use mathlib.Core.Path.{_≡_};
 ghost use mathlib.Core.Bool.{_&&_};
 ghost use lib.Dec.{ltb, eqb};
@@ -31,12 +29,12 @@ pub fn write(p: Port, out: &mut [u8], src: &[u8]) -> Answered
     }
     let x = p.settings;
     let o = p.output;
-    let w = output::write(o, x, out, src);
-    let count = w.count;
+    let wrote = output::write(o, x, out, src);
+    let count = wrote.count;
     if nothing_taken(src.len(), count) {
         return port::says(p, Outcome::Refused(Refusal::Nothing), 0);
     }
-    let output = w.output;
+    let output = wrote.output;
     let after = p.with_output(output);
     port::says(after, Outcome::Ok, count)
 }
@@ -46,10 +44,10 @@ pub fn transmit(p: Port, out: &[u8], dst: &mut [u8]) -> Answered
     ensures { λ r. ⌜ promise.result r (before out) (after dst) ≡ promise.afterTransmit p (before out) (before dst) ⌝ }
 {
     let o = p.output;
-    let s = o.transmit(out, dst);
-    let output = s.output;
+    let sent = o.transmit(out, dst);
+    let output = sent.output;
     let after = p.with_output(output);
-    port::says(after, Outcome::Ok, s.count)
+    port::says(after, Outcome::Ok, sent.count)
 }
 
 // How many bytes of a buffer were written, and how many were handed out meanwhile.
@@ -59,26 +57,26 @@ pub struct Moved {
     pub given: usize,
 }
 
-fn taken(a: Answered) -> usize
-    ensures { λ r. ⌜ r ≡ a .answer .count ⌝ }
+fn taken(answered: Answered) -> usize
+    ensures { λ r. ⌜ r ≡ answered .answer .count ⌝ }
 {
-    let x = a.answer;
-    x.count
+    let answer = answered.answer;
+    answer.count
 }
 
 // 'Later writes go on from the rest': as much of src as the port takes, then what transmit gives into dst, then the rest.
 pub fn write_through(p: Port, out: &mut [u8], src: &[u8], dst: &mut [u8]) -> Moved
     ensures { λ r. ⌜ MovesThrough p (before out) (before src) (before dst) r (after out) (after dst) ⌝ }
 {
-    let a = write(p, out, src);
-    let q = a.port;
-    let n = taken(a);
-    let b = transmit(q, out, dst);
-    let t = b.port;
-    let given = taken(b);
-    let c = write(t, out, &src[n..]);
-    let port = c.port;
-    let more = taken(c);
+    let first = write(p, out, src);
+    let filled = first.port;
+    let n = taken(first);
+    let sent = transmit(filled, out, dst);
+    let emptied = sent.port;
+    let given = taken(sent);
+    let rest = write(emptied, out, &src[n..]);
+    let port = rest.port;
+    let more = taken(rest);
     Moved {
         port: port,
         written: n + more,

@@ -1,6 +1,4 @@
-// Document 01: the foreground group.
-// Document 01, 'Received events': the signals that go to the foreground group.
-// Document 01, 'Job control verdicts'.
+// Document 01, the foreground group: its number and orphaned mark, the signals that go to it, and 'Job control verdicts'.
 ghost use mathlib.Core.Path.{_≡_};
 ghost use lib.Dec.{eqb};
 ghost use Rattle.rules.specs.Verdicts as rule;
@@ -11,11 +9,14 @@ use rules::Process;
 use rules::Signal;
 use rules::Verdict;
 
+// 'a foreground group: none, or a number 1..2,147,483,647'
+pub const LARGEST_GROUP: u32 = 2147483647;
+
 // Refusal 2: 'a group above 2,147,483,647'.
 pub fn too_large(group: u32) -> bool
     ensures { λ r. ⌜ r ≡ rule.tooLarge group ⌝ }
 {
-    group > 2147483647
+    group > LARGEST_GROUP
 }
 
 // 'a foreground group: none, or a number .. with an orphaned mark'; 0 sets none
@@ -33,19 +34,19 @@ pub fn group_of(group: u32, orphaned: bool) -> Group
 
 // 'INT, QUIT and TSTP go to the foreground group; with none, no signal is reported, nor TSTP for an orphaned group.' 'HUP
 // goes to the controlling process.'
-pub fn reported(g: Signal, f: Group) -> Outcome
-    ensures { λ r. ⌜ r ≡ received.reported g f ⌝ }
+pub fn reported(signal: Signal, foreground: Group) -> Outcome
+    ensures { λ r. ⌜ r ≡ received.reported signal foreground ⌝ }
 {
-    match g {
-        Signal::Int => match f {
+    match signal {
+        Signal::Int => match foreground {
             Group::Nobody => Outcome::Ok,
             Group::Number { .. } => Outcome::Reports(Signal::Int),
         },
-        Signal::Quit => match f {
+        Signal::Quit => match foreground {
             Group::Nobody => Outcome::Ok,
             Group::Number { .. } => Outcome::Reports(Signal::Quit),
         },
-        Signal::Tstp => match f {
+        Signal::Tstp => match foreground {
             Group::Nobody => Outcome::Ok,
             Group::Number { orphaned, .. } => {
                 if orphaned {
@@ -59,67 +60,67 @@ pub fn reported(g: Signal, f: Group) -> Outcome
 }
 
 // 'in the foreground group'
-fn in_foreground(g: Group, group: u32) -> bool
-    ensures { λ r. ⌜ r ≡ rule.inForeground g group ⌝ }
+fn in_foreground(foreground: Group, group: u32) -> bool
+    ensures { λ r. ⌜ r ≡ rule.inForeground foreground group ⌝ }
 {
-    match g {
+    match foreground {
         Group::Nobody => false,
         Group::Number { number, .. } => number == group,
     }
 }
 
 // 'Not the controlling terminal, or in the foreground group'
-fn free(g: Group, p: Process) -> bool
-    ensures { λ r. ⌜ r ≡ rule.free g p ⌝ }
+fn free(foreground: Group, who: Process) -> bool
+    ensures { λ r. ⌜ r ≡ rule.free foreground who ⌝ }
 {
-    if p.controlling {
-        return in_foreground(g, p.group);
+    if who.controlling {
+        return in_foreground(foreground, who.group);
     }
     true
 }
 
 // the signal is 'ignored or blocked'
-fn deaf(p: Process) -> bool
-    ensures { λ r. ⌜ r ≡ rule.deaf p ⌝ }
+fn deaf(who: Process) -> bool
+    ensures { λ r. ⌜ r ≡ rule.deaf who ⌝ }
 {
-    p.ignored || p.blocked
+    who.ignored || who.blocked
 }
 
 // 'A background read: EIO if TTIN is ignored or blocked or the group is orphaned; else TTIN to the group.'
-pub fn read_verdict(g: Group, p: Process) -> Verdict
-    ensures { λ r. ⌜ r ≡ rule.readVerdict g p ⌝ }
+pub fn read_verdict(foreground: Group, who: Process) -> Verdict
+    ensures { λ r. ⌜ r ≡ rule.readVerdict foreground who ⌝ }
 {
-    if free(g, p) {
+    if free(foreground, who) {
         return Verdict::Allowed;
     }
-    if deaf(p) || p.orphaned {
+    if deaf(who) || who.orphaned {
         return Verdict::Eio;
     }
     Verdict::Ttin
 }
 
 // 'A background write: allowed if TOSTOP is clear or TTOU ignored or blocked; else EIO if orphaned; else TTOU.'
-pub fn write_verdict(tostop: bool, g: Group, p: Process) -> Verdict
-    ensures { λ r. ⌜ r ≡ rule.writeVerdict tostop g p ⌝ }
+pub fn write_verdict(tostop: bool, foreground: Group, who: Process) -> Verdict
+    ensures { λ r. ⌜ r ≡ rule.writeVerdict tostop foreground who ⌝ }
 {
-    if free(g, p) {
+    if free(foreground, who) {
         return Verdict::Allowed;
     }
     if !tostop {
         return Verdict::Allowed;
     }
-    if deaf(p) {
+    if deaf(who) {
         return Verdict::Allowed;
     }
-    if p.orphaned {
+    if who.orphaned {
         return Verdict::Eio;
     }
     Verdict::Ttou
 }
 
 // 'Changing settings: as a write with TOSTOP set.'
-pub fn settings_verdict(g: Group, p: Process) -> Verdict
-    ensures { λ r. ⌜ r ≡ rule.settingsVerdict g p ⌝ }
+pub fn settings_verdict(foreground: Group, who: Process) -> Verdict
+    ensures { λ r. ⌜ r ≡ rule.settingsVerdict foreground who ⌝ }
 {
-    write_verdict(true, g, p)
+    write_verdict(true, foreground, who)
 }

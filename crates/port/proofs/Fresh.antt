@@ -12,7 +12,7 @@ use Rattle.rules.specs.declared.Waiting.the-variants.{Idle}
 use Rattle.rules.specs.Settings.{defaults, fresh}
 use Rattle.input.specs.Contract as input
 use Rattle.output.specs.Contract as output
-use Rattle.port.specs.State.{capacity, get}
+use Rattle.port.specs.State.{placeBytes, placeMarks, get}
 use Rattle.port.specs.Sending as port
 
 no-bytes : (l : List ℕ) → length l ≤ 0 → l ≡ []
@@ -27,13 +27,13 @@ fresh-state bs ms os =
     ap₂ (λ (l o : List ℕ). record {
       settings = defaults;
       input = record {
-        finished = take 0 (input.places l (heldIn (laid 0 []) (take (capacity bs ms) ms)));
+        finished = take 0 (input.places l (heldIn (laid 0 []) (placeMarks bs ms)));
         current =
-            reverse (drop 0 (input.places l (heldIn (laid 0 []) (take (capacity bs ms) ms))));
+            reverse (drop 0 (input.places l (heldIn (laid 0 []) (placeMarks bs ms))));
         literalNext = false;
       };
       output = record { queue = o; column = 0; stopped = false };
       foreground = Nobody;
       hungUp = false;
       waiting = Idle;
-    }) (none (take (capacity bs ms) bs)) (none os)
+    }) (none (placeBytes bs ms)) (none os)

@@ -17,7 +17,7 @@ use Rattle.input.specs.declared.Input.{Input}
 use Rattle.input.proofs.Laws.{After, get-grown, get-fewer, used-least}
 use Rattle.output.specs.Contract as output
 use Rattle.output.proofs.Laws as queued
-use Rattle.port.specs.State.{capacity, sizes, get}
+use Rattle.port.specs.State.{capacity, placeBytes, placeMarks, sizes, get}
 use Rattle.port.specs.Sending.{refused}
 use Rattle.port.specs.declared.Port.{Port}
 use Rattle.port.specs.declared.Answered.{Answered}
@@ -25,7 +25,7 @@ use Rattle.port.specs.Layers.{state}
 use Rattle.port.proofs.Layers.{one-port}
 use Rattle.port.specs.following.Following.{Follows, grown, fewer, Goes}
 use Rattle.port.specs.Calls.{Leaves, Calls, Keeps, Asks, Now}
-use Rattle.port.proofs.Calls.{bytes-long, marks-long}
+use Rattle.port.proofs.Calls.{bytes-long, both-long}
 
 ---- No second result
 
@@ -90,9 +90,8 @@ unfolding get
 left-now p r bs ms os bs′ ms′ os′ w goes left =
     let N : ℕ = capacity bs ms in
     let b = left .port in
-    let e : length (take N bs) ≡ length (take N ms) = bytes-long bs ms ∙ sym (marks-long bs ms) in
     let a : After (w .input) (take N bs) (take N ms) (r .input) (take N bs′) (take N ms′) =
-    followed (p .input) (r .input) (take N bs) (take N ms) (take N bs′) (take N ms′) (w .input) e (goes .follows)
+    followed (p .input) (r .input) (take N bs) (take N ms) (take N bs′) (take N ms′) (w .input) (both-long bs ms) (goes .follows)
     (subst (λ (k : ℕ). used (w .input) ≤ k) (sym (bytes-long bs ms)) (goes .places)) (b .input) in
     let lb : length bs′ ≡ length bs = long-again N bs′ bs (a .bytes) (left .bytes) in
     let lm : length ms′ ≡ length ms = long-again N ms′ ms (a .marks) (left .marks) in
@@ -100,7 +99,7 @@ left-now p r bs ms os bs′ ms′ os′ w goes left =
     let n : capacity bs′ ms′ ≡ N = ap₂ min lb lm in
     record {
       state =
-          same-state (r .settings) (w .settings) (input.get (r .input) (take (capacity bs′ ms′) bs′) (take (capacity bs′ ms′) ms′)) (w .input)
+          same-state (r .settings) (w .settings) (input.get (r .input) (placeBytes bs′ ms′) (placeMarks bs′ ms′)) (w .input)
           (output.get (r .output) os′) (w .output) (r .foreground) (w .foreground) (r .hung) (w .hungUp) (r .waiting) (w .waiting)
           (b .settings) (ap (λ (k : ℕ). input.get (r .input) (take k bs′) (take k ms′)) n ∙ a .meaning)
           (queued.get-after (p .output) (r .output) os os′ (w .output) (b .output) (goes .queue)) (b .foreground) (b .hung) (b .waiting);
@@ -114,9 +113,7 @@ module _ (p : Port) (bs ms os : List ℕ) where
   pub within-places : used (get p bs ms os .input) ≤ sizes p bs ms os .input
   unfolding get
   within-places =
-      let bs′ : List ℕ = take (capacity bs ms) bs in
-      let ms′ : List ℕ = take (capacity bs ms) ms in
-      omega (arith, used-least (p .input) bs′ ms′ (bytes-long bs ms ∙ sym (marks-long bs ms)), bytes-long bs ms)
+      omega (arith, used-least (p .input) (placeBytes bs ms) (placeMarks bs ms) (both-long bs ms), bytes-long bs ms)
 
   pub within-queue : length (get p bs ms os .output .queue) ≤ sizes p bs ms os .output
   unfolding get

@@ -11,7 +11,7 @@ use Rattle.rules.specs.Refusals.{Reply}
 use Rattle.rules.specs.Step.{step}
 use Rattle.input.specs.Contract as input
 use Rattle.output.specs.Contract.{inRange}
-use Rattle.port.specs.State.{capacity, sizes, get}
+use Rattle.port.specs.State.{capacity, placeBytes, placeMarks, sizes, get}
 use Rattle.port.specs.Sending.{refused}
 use Rattle.port.specs.declared.Port.{Port}
 use Rattle.port.specs.declared.Answered.{Answered}
@@ -24,7 +24,7 @@ stepOf p bs ms os call lent = step (sizes p bs ms os) (get p bs ms os) call lent
 -- Within the places of the input the port becomes the state w. Behind them, where one slice is longer than the other, every
 -- byte is as it was.
 pub record Leaves (p : Port) (bs ms os : List ℕ) (w : State) (r : Port) (bs′ ms′ os′ : List ℕ) : Type 0 where
-  pub port : Becomes p (take (capacity bs ms) bs) (take (capacity bs ms) ms) os w r (take (capacity bs ms) bs′) (take (capacity bs ms) ms′) os′
+  pub port : Becomes p (placeBytes bs ms) (placeMarks bs ms) os w r (take (capacity bs ms) bs′) (take (capacity bs ms) ms′) os′
   pub bytes : drop (capacity bs ms) bs′ ≡ drop (capacity bs ms) bs
   pub marks : drop (capacity bs ms) ms′ ≡ drop (capacity bs ms) ms
 

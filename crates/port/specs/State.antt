@@ -8,9 +8,16 @@ use Rattle.output.specs.Contract as output
 use Rattle.output.specs.declared.Output.{Output}
 use Rattle.port.specs.declared.Port.{Port}
 
--- The input has as many capacity as the shorter of its two slices.
+-- The input has as many places as the shorter of its two slices.
 abbrev pub capacity : List ℕ → List ℕ → ℕ
 capacity bs ms = min (length bs) (length ms)
+
+-- the bytes of these places, and their marks
+abbrev pub placeBytes : List ℕ → List ℕ → List ℕ
+placeBytes bs ms = take (capacity bs ms) bs
+
+abbrev pub placeMarks : List ℕ → List ℕ → List ℕ
+placeMarks bs ms = take (capacity bs ms) ms
 
 abbrev pub sizes : Port → List ℕ → List ℕ → List ℕ → Sizes
 sizes p bs ms os = record { line = p .line; input = capacity bs ms; output = length os }
@@ -19,7 +26,7 @@ unfoldable pub get : Port → List ℕ → List ℕ → List ℕ → State
 get p bs ms os =
     record {
       settings = p .settings;
-      input = input.get (p .input) (take (capacity bs ms) bs) (take (capacity bs ms) ms);
+      input = input.get (p .input) (placeBytes bs ms) (placeMarks bs ms);
       output = output.get (p .output) os;
       foreground = p .foreground;
       hungUp = p .hung;

@@ -1,7 +1,5 @@
-// A port of document 01: its state, a fresh one, flushing its output, an answer. A port is scalars by value; its three queues are lent as
-// slices of any length (input bytes, input marks, output), made by whoever owns the port.
-// A port put together again; what the layers between the public calls and the queues promise of a port.
-// What every call on a port and its slices begins with.
+// A port of document 01: scalars by value. Its three queues are lent as slices of any length (input bytes, input marks, output), made
+// by whoever owns the port. A fresh port, the port with other parts, an answer.
 ghost use mathlib.Core.Path.{_≡_};
 ghost use Rattle.port.specs.State.{withOutput};
 ghost use Rattle.port.specs.Layers.{assembled};
@@ -59,18 +57,9 @@ impl Port {
     pub fn with_output(self, output: Output) -> Port
         ensures { λ r. ⌜ r ≡ withOutput self output ⌝ }
     {
-        let settings = self.settings;
-        let input = self.input;
-        let foreground = self.foreground;
-        let waiting = self.waiting;
         Port {
-            settings: settings,
-            line: self.line,
-            input: input,
             output: output,
-            foreground: foreground,
-            hung: self.hung,
-            waiting: waiting,
+            ..self
         }
     }
 
@@ -81,6 +70,22 @@ impl Port {
         let o = self.output;
         let output = o.flush(n);
         self.with_output(output)
+    }
+
+    // What every call on a port and its slices begins with: the same port, its numbers in range of n places of input and of
+    // room bytes of output.
+    pub fn in_range(self, n: usize, room: usize) -> Port
+        ensures { λ r. ⌜ r ≡ ranged self n room ⌝ }
+    {
+        let i = self.input;
+        let o = self.output;
+        let input = i.fit(n);
+        let output = o.fit(room);
+        Port {
+            input: input,
+            output: output,
+            ..self
+        }
     }
 }
 
@@ -101,27 +106,10 @@ pub fn says(p: Port, outcome: Outcome, count: usize) -> Answered
 pub fn assemble(p: Port, input: Input, output: Output, waiting: Waiting) -> Port
     ensures { λ r. ⌜ r ≡ assembled p input output waiting ⌝ }
 {
-    let settings = p.settings;
-    let foreground = p.foreground;
     Port {
-        settings: settings,
-        line: p.line,
         input: input,
         output: output,
-        foreground: foreground,
-        hung: p.hung,
         waiting: waiting,
+        ..p
     }
-}
-
-// the same port, its numbers in range of n places of input and m bytes of output
-pub fn in_range(p: Port, n: usize, m: usize) -> Port
-    ensures { λ r. ⌜ r ≡ ranged p n m ⌝ }
-{
-    let i = p.input;
-    let o = p.output;
-    let input = i.fit(n);
-    let output = o.fit(m);
-    let waiting = p.waiting;
-    assemble(p, input, output, waiting)
 }

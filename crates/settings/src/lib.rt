@@ -1,6 +1,4 @@
-// Document 01, 'Settings': 'Flags by bit, 0 to 31'; 'the special characters .. stand in this order .. then MIN .. TIME'.
-// Document 01, 'Settings': the defaults.
-// Document 01, 'Settings': which settings are refused.
+// Document 01, 'Settings': 32 flags, 13 special characters, MIN and TIME; the defaults; which settings are refused.
 ghost use mathlib.Core.Path.{_≡_};
 ghost use Rattle.rules.specs.Lent.{before};
 ghost use Rattle.rules.specs.Settings.{settingsOf, «defaults», «characters», «is», elem, enabledOf, distinct, «acceptable»};
@@ -8,66 +6,162 @@ ghost use Rattle.rules.specs.Trace.{bitOf};
 ghost use mathlib.Core.Bool.{not};
 use rules::Settings;
 
+// 'Flags by bit, 0 to 31'.
+pub const IGNBRK: u32 = 1;
+
+pub const BRKINT: u32 = 2;
+
+pub const IGNPAR: u32 = 4;
+
+pub const PARMRK: u32 = 8;
+
+pub const INPCK: u32 = 16;
+
+pub const ISTRIP: u32 = 32;
+
+pub const INLCR: u32 = 64;
+
+pub const IGNCR: u32 = 128;
+
+pub const ICRNL: u32 = 256;
+
+pub const IXON: u32 = 512;
+
+pub const IXANY: u32 = 1024;
+
+pub const IMAXBEL: u32 = 2048;
+
+pub const OPOST: u32 = 4096;
+
+pub const ONLCR: u32 = 8192;
+
+pub const OCRNL: u32 = 16384;
+
+pub const TAB3: u32 = 32768;
+
+pub const ONOEOT: u32 = 65536;
+
+pub const ONOCR: u32 = 131072;
+
+pub const ONLRET: u32 = 262144;
+
+pub const CLOCAL: u32 = 524288;
+
+pub const ECHO: u32 = 1048576;
+
+pub const ECHOE: u32 = 2097152;
+
+pub const ECHOK: u32 = 4194304;
+
+pub const ECHOKE: u32 = 8388608;
+
+pub const ECHONL: u32 = 16777216;
+
+pub const ECHOCTL: u32 = 33554432;
+
+pub const ISIG: u32 = 67108864;
+
+pub const ICANON: u32 = 134217728;
+
+pub const ALTWERASE: u32 = 268435456;
+
+pub const IEXTEN: u32 = 536870912;
+
+pub const TOSTOP: u32 = 1073741824;
+
+pub const NOFLSH: u32 = 2147483648;
+
 // The settings that 32 flags and 15 values mean.
-pub fn settings_of(flags: u32, v: [u8; 15]) -> Settings
-    ensures { λ r. ⌜ r ≡ settingsOf (bitOf flags) v ⌝ }
+pub fn settings_of(flags: u32, values: [u8; 15]) -> Settings
+    ensures { λ r. ⌜ r ≡ settingsOf (bitOf flags) values ⌝ }
 {
     Settings {
-        ignbrk: flags / 1 % 2 == 1,
-        brkint: flags / 2 % 2 == 1,
-        ignpar: flags / 4 % 2 == 1,
-        parmrk: flags / 8 % 2 == 1,
-        inpck: flags / 16 % 2 == 1,
-        istrip: flags / 32 % 2 == 1,
-        inlcr: flags / 64 % 2 == 1,
-        igncr: flags / 128 % 2 == 1,
-        icrnl: flags / 256 % 2 == 1,
-        ixon: flags / 512 % 2 == 1,
-        ixany: flags / 1024 % 2 == 1,
-        imaxbel: flags / 2048 % 2 == 1,
-        opost: flags / 4096 % 2 == 1,
-        onlcr: flags / 8192 % 2 == 1,
-        ocrnl: flags / 16384 % 2 == 1,
-        tab3: flags / 32768 % 2 == 1,
-        onoeot: flags / 65536 % 2 == 1,
-        onocr: flags / 131072 % 2 == 1,
-        onlret: flags / 262144 % 2 == 1,
-        clocal: flags / 524288 % 2 == 1,
-        echo: flags / 1048576 % 2 == 1,
-        echoe: flags / 2097152 % 2 == 1,
-        echok: flags / 4194304 % 2 == 1,
-        echoke: flags / 8388608 % 2 == 1,
-        echonl: flags / 16777216 % 2 == 1,
-        echoctl: flags / 33554432 % 2 == 1,
-        isig: flags / 67108864 % 2 == 1,
-        icanon: flags / 134217728 % 2 == 1,
-        altwerase: flags / 268435456 % 2 == 1,
-        iexten: flags / 536870912 % 2 == 1,
-        tostop: flags / 1073741824 % 2 == 1,
-        noflsh: flags / 2147483648 % 2 == 1,
-        eof: v[0],
-        eol: v[1],
-        eol2: v[2],
-        erase: v[3],
-        werase: v[4],
-        kill: v[5],
-        reprint: v[6],
-        intr: v[7],
-        quit: v[8],
-        susp: v[9],
-        start: v[10],
-        stop: v[11],
-        lnext: v[12],
-        min: v[13],
-        time: v[14],
+        ignbrk: flags / IGNBRK % 2 == 1,
+        brkint: flags / BRKINT % 2 == 1,
+        ignpar: flags / IGNPAR % 2 == 1,
+        parmrk: flags / PARMRK % 2 == 1,
+        inpck: flags / INPCK % 2 == 1,
+        istrip: flags / ISTRIP % 2 == 1,
+        inlcr: flags / INLCR % 2 == 1,
+        igncr: flags / IGNCR % 2 == 1,
+        icrnl: flags / ICRNL % 2 == 1,
+        ixon: flags / IXON % 2 == 1,
+        ixany: flags / IXANY % 2 == 1,
+        imaxbel: flags / IMAXBEL % 2 == 1,
+        opost: flags / OPOST % 2 == 1,
+        onlcr: flags / ONLCR % 2 == 1,
+        ocrnl: flags / OCRNL % 2 == 1,
+        tab3: flags / TAB3 % 2 == 1,
+        onoeot: flags / ONOEOT % 2 == 1,
+        onocr: flags / ONOCR % 2 == 1,
+        onlret: flags / ONLRET % 2 == 1,
+        clocal: flags / CLOCAL % 2 == 1,
+        echo: flags / ECHO % 2 == 1,
+        echoe: flags / ECHOE % 2 == 1,
+        echok: flags / ECHOK % 2 == 1,
+        echoke: flags / ECHOKE % 2 == 1,
+        echonl: flags / ECHONL % 2 == 1,
+        echoctl: flags / ECHOCTL % 2 == 1,
+        isig: flags / ISIG % 2 == 1,
+        icanon: flags / ICANON % 2 == 1,
+        altwerase: flags / ALTWERASE % 2 == 1,
+        iexten: flags / IEXTEN % 2 == 1,
+        tostop: flags / TOSTOP % 2 == 1,
+        noflsh: flags / NOFLSH % 2 == 1,
+        eof: values[0],
+        eol: values[1],
+        eol2: values[2],
+        erase: values[3],
+        werase: values[4],
+        kill: values[5],
+        reprint: values[6],
+        intr: values[7],
+        quit: values[8],
+        susp: values[9],
+        start: values[10],
+        stop: values[11],
+        lnext: values[12],
+        min: values[13],
+        time: values[14],
     }
 }
 
-// EOF, EOL, EOL2, ERASE, WERASE, KILL, REPRINT, INTR, QUIT, SUSP, START, STOP, LNEXT; then MIN, TIME.
-pub const DEFAULTS: [u8; 15] = [4, 255, 255, 127, 23, 21, 18, 3, 28, 26, 17, 19, 22, 1, 0];
+// 'The value 255 disables a special character.'
+pub const DISABLED: u8 = 255;
 
-// BRKINT ICRNL IXON IMAXBEL OPOST ONLCR ECHO ECHOE ECHOKE ECHOCTL ISIG ICANON IEXTEN.
-pub const DEFAULT_FLAGS: u32 = 783301378;
+// EOF, EOL, EOL2, ERASE, WERASE, KILL, REPRINT, INTR, QUIT, SUSP, START, STOP, LNEXT; then MIN, TIME.
+pub const DEFAULTS: [u8; 15] = [
+    4,
+    DISABLED,
+    DISABLED,
+    127,
+    23,
+    21,
+    18,
+    3,
+    28,
+    26,
+    17,
+    19,
+    22,
+    1,
+    0,
+];
+
+// 'Flags set by default'.
+pub const DEFAULT_FLAGS: u32 = BRKINT
+    + ICRNL
+    + IXON
+    + IMAXBEL
+    + OPOST
+    + ONLCR
+    + ECHO
+    + ECHOE
+    + ECHOKE
+    + ECHOCTL
+    + ISIG
+    + ICANON
+    + IEXTEN;
 
 // The settings of a fresh port.
 pub fn defaults() -> Settings
@@ -97,44 +191,44 @@ fn characters(x: Settings) -> [u8; 13]
     ]
 }
 
-// b is the special character c, and c is enabled.
-pub fn is(b: u8, c: u8) -> bool
-    ensures { λ r. ⌜ r ≡ «is» b c ⌝ }
+// b is the special character, and that is enabled.
+pub fn is(b: u8, special: u8) -> bool
+    ensures { λ r. ⌜ r ≡ «is» b special ⌝ }
 {
-    b == c && c != 255
+    b == special && special != DISABLED
 }
 
 // Two enabled special characters are equal.
-fn paired(c: &[u8]) -> bool
-    ensures { λ r. ⌜ r ≡ not (distinct (enabledOf (before c))) ⌝ }
+fn paired(specials: &[u8]) -> bool
+    ensures { λ r. ⌜ r ≡ not (distinct (enabledOf (before specials))) ⌝ }
 {
     let mut found = false;
-    let mut i = 0;
-    'pairs: while i < c.len() {
-        let b = c[i];
-        let mut j = i + 1;
-        while j < c.len() {
-            if is(b, c[j]) {
+    let mut at = 0;
+    'pairs: while at < specials.len() {
+        let b = specials[at];
+        let mut k = at + 1;
+        while k < specials.len() {
+            if is(b, specials[k]) {
                 found = true;
                 break 'pairs;
             }
-            j += 1;
+            k += 1;
         }
-        i += 1;
+        at += 1;
     }
     found
 }
 
 // b is an enabled special character.
-fn has(c: &[u8], b: u8) -> bool
-    ensures { λ r. ⌜ r ≡ elem b (enabledOf (before c)) ⌝ }
+fn has(specials: &[u8], b: u8) -> bool
+    ensures { λ r. ⌜ r ≡ elem b (enabledOf (before specials)) ⌝ }
 {
-    let mut i = 0;
-    while i < c.len() {
-        if is(b, c[i]) {
+    let mut k = 0;
+    while k < specials.len() {
+        if is(b, specials[k]) {
             return true;
         }
-        i += 1;
+        k += 1;
     }
     false
 }
@@ -143,12 +237,12 @@ fn has(c: &[u8], b: u8) -> bool
 pub fn acceptable(x: Settings) -> bool
     ensures { λ r. ⌜ r ≡ «acceptable» x ⌝ }
 {
-    let c = characters(x);
-    if paired(&c) {
+    let specials = characters(x);
+    if paired(&specials) {
         return false;
     }
-    if has(&c, 10) {
+    if has(&specials, 10) {
         return false;
     }
-    !has(&c, 13)
+    !has(&specials, 13)
 }

@@ -12,7 +12,7 @@ use Rattle.rules.specs.Sizes.{Place}
 use Rattle.rules.specs.Reads.{isEmpty, begins, beginsOn}
 
 -- a list has an element exactly if its length is above 0
-some : (ps : List Place) (k : ℕ) → length ps ≡ k → not (isEmpty ps) ≡ ltb 0 k
+pub some : (ps : List Place) (k : ℕ) → length ps ≡ k → not (isEmpty ps) ≡ ltb 0 k
 some [] k e = ap (ltb 0) e
 some (p ∷ ps) k e = sym (lt-ltb 0 k (omega arith))
 

@@ -1,12 +1,7 @@
-// Document 01, 'Reads': a timer, a tenth of a second later.
-// Document 01, 'Reads': a tick lowers the timer of a waiting read, and at zero it has expired.
-// Document 01, 'Reads': the timer between bytes, and what an input flush does to the timer of a waiting read.
-// Document 01, 'Reads': a unit is stored, and the timer of a waiting read starts.
-// Document 01, refusal 4: a read waits, and what comes does not go with it.
-// Document 01, 'Reads': when what is stored is enough for a read.
-// Document 01, 'Reads': the waiting read, as it begins and as it goes on.
+// Document 01, 'Reads': the waiting read and its timer, as it begins and goes on, by ticks, stored units and input flushes; when what is stored is
+// enough for a read; and refusal 4, what does not go with a waiting read.
 ghost use mathlib.Core.Path.{_≡_};
-ghost use Prim.Native.Nat.{_-_, min};
+ghost use Prim.Native.Nat.{_-_};
 ghost use lib.Dec.{eqb, ltb};
 ghost use mathlib.Core.Bool.{_||_};
 ghost use mathlib.Core.List.{List};
@@ -33,19 +28,19 @@ fn one_less(left: u8) -> u8
 }
 
 // The timer a tenth of a second later, where it is lent.
-pub fn tick(t: &mut Timer)
-    ensures { λ _. ⌜ after t ≡ record { left = before t .left - 1 } ⌝ }
+fn tick(timer: &mut Timer)
+    ensures { λ _. ⌜ after timer ≡ record { left = before timer .left - 1 } ⌝ }
 {
-    t.left = one_less(t.left);
+    timer.left = one_less(timer.left);
 }
 
 // The same by value: the timer is lent to `tick`.
-pub fn lower(t: Timer) -> Timer
-    ensures { λ r. ⌜ r ≡ record { left = t .left - 1 } ⌝ }
+fn lower(timer: Timer) -> Timer
+    ensures { λ r. ⌜ r ≡ record { left = timer .left - 1 } ⌝ }
 {
-    let mut u = t;
-    tick(&mut u);
-    u
+    let mut lent = timer;
+    tick(&mut lent);
+    lent
 }
 
 // 'While a read waits, each tenth of a second lowers it by one.'
@@ -99,7 +94,7 @@ pub fn timer_flushed(between: bool, w: Waiting) -> Waiting
 }
 
 // 'the timer starts at TIME'
-pub fn started(x: Settings, count: usize) -> Waiting
+fn started(x: Settings, count: usize) -> Waiting
     ensures { λ r. ⌜ r ≡ Waiting.Timed count (record { left = x .time }) ⌝ }
 {
     Waiting::Timed {

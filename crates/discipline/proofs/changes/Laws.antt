@@ -1,6 +1,6 @@
 -- One lemma for each way out of the functions. Assumes nothing.
-use mathlib.Core.Path.{_≡_, refl, sym, ap, ap₂, subst, _∙_}
-use mathlib.Core.Bool.{Bool, true, false, not, _&&_}
+use mathlib.Core.Path.{_≡_, refl, sym, ap, subst, _∙_}
+use mathlib.Core.Bool.{Bool, true, false}
 use mathlib.Core.List.{List, [], _++_}
 use Prim.Native.Nat.{ℕ}
 use lib.ListN.{length, take, drop}
@@ -14,76 +14,16 @@ use Rattle.rules.specs.Refusals.{Reply}
 use Rattle.rules.specs.Settings.{acceptable}
 use Rattle.rules.specs.Step.{aReadWaits, setOn}
 use Rattle.input.specs.declared.Input.{Input}
-use Rattle.input.specs.Contract.{Within, fitted, Sound}
-use Rattle.input.proofs.Laws.{fitted-within}
+use Rattle.input.specs.Contract.{fitted}
 use Rattle.output.specs.declared.Output.{Output}
-use Rattle.port.specs.State.{capacity, get}
+use Rattle.port.specs.State.{capacity, placeBytes, placeMarks, get}
 use Rattle.port.specs.declared.Port.{Port}
 use Rattle.port.specs.declared.Answered.{Answered}
-use Rattle.input.specs.canonical.Contract.{GoesOff, GoesOn}
 use Rattle.port.specs.Calls.{stepOf}
-use Rattle.port.proofs.Calls.{bytes-long, marks-long, both-long}
+use Rattle.port.proofs.Calls.{bytes-long, marks-long}
 use Rattle.discipline.specs.changes.Contract.{Changes, resumed, withSettings, Changed, Sets}
 
----- change_input
-
-module _ (i : Input) (bs ms : List ℕ) (was is : Bool) where
-  pub sound-marks : Sound i bs ms → Within i (length ms)
-  sound-marks h = subst (λ (k : ℕ). Within i k) (h .same) (h .within)
-
-  pub stays-on : was ≡ true → is ≡ true → Changes was is i bs ms i bs ms
-  stays-on e f = subst (λ (y : Bool). Changes y is i bs ms i bs ms) (sym e) (subst (λ (y : Bool). Changes true y i bs ms i bs ms) (sym f) (refl, refl, refl))
-
-  pub stays-off : was ≡ false → is ≡ false → Changes was is i bs ms i bs ms
-  stays-off e f =
-      subst (λ (y : Bool). Changes y is i bs ms i bs ms) (sym e) (subst (λ (y : Bool). Changes false y i bs ms i bs ms) (sym f) (refl, refl, refl))
-
-  pub goes-off : (r : Input) (bs′ ms′ : List ℕ) → was ≡ true → is ≡ false → GoesOff i bs ms r bs′ ms′ → Changes was is i bs ms r bs′ ms′
-  goes-off r bs′ ms′ e f h =
-      subst (λ (y : Bool). Changes y is i bs ms r bs′ ms′) (sym e) (subst (λ (y : Bool). Changes true y i bs ms r bs′ ms′) (sym f) h)
-
-  pub goes-on : (r : Input) (ms′ : List ℕ) → was ≡ false → is ≡ true → GoesOn i ms r ms′ → Changes was is i bs ms r bs ms′
-  goes-on r ms′ e f h =
-      subst (λ (y : Bool). Changes y is i bs ms r bs ms′) (sym e) (subst (λ (y : Bool). Changes false y i bs ms r bs ms′) (sym f) (h, refl))
-
----- change_output
-
-module _ (o : Output) (was is : Bool) where
-  and-true : (t : Bool) → t ≡ (t && true)
-  and-true true = refl
-  and-true false = refl
-
-  and-false : (t : Bool) → false ≡ (t && false)
-  and-false true = refl
-  and-false false = refl
-
-  abbrev stoppedAs : Bool → Output
-  stoppedAs t = record { queue = o .queue; column = o .column; stopped = t }
-
-  same-stop : (u : Bool) → not (was && not is) ≡ u → stoppedAs (o .stopped && u) ≡ resumed was is o
-  same-stop u e = ap (λ (y : Bool). stoppedAs (o .stopped && y)) (sym e)
-
-  pub output-on : was ≡ true → is ≡ true → o ≡ resumed was is o
-  output-on e f = ap stoppedAs (and-true (o .stopped)) ∙ same-stop true (ap₂ (λ (y z : Bool). not (y && not z)) e f)
-
-  pub output-off : (r : Output) → was ≡ true → is ≡ false → r ≡ stoppedAs false → r ≡ resumed was is o
-  output-off r e f h = h ∙ ap stoppedAs (and-false (o .stopped)) ∙ same-stop false (ap₂ (λ (y z : Bool). not (y && not z)) e f)
-
-  pub output-stays : was ≡ false → o ≡ resumed was is o
-  output-stays e = ap stoppedAs (and-true (o .stopped)) ∙ same-stop true (ap (λ (y : Bool). not (y && not is)) e)
-
----- set
-
 module _ (p : Port) (bs ms : List ℕ) where
-  pub fitted-sound : (f : Input) (n : ℕ) → n ≡ capacity bs ms → f ≡ fitted n (p .input) → Sound f (take n bs) (take n ms)
-  fitted-sound f n en ef =
-      subst (λ (y : Input). Sound y (take n bs) (take n ms)) (sym ef)
-      (subst (λ (k : ℕ). Sound (fitted k (p .input)) (take k bs) (take k ms)) (sym en)
-      (record {
-        same = both-long p bs ms [];
-        within = subst (λ (k : ℕ). Within (fitted (capacity bs ms) (p .input)) k) (sym (bytes-long bs ms)) (fitted-within (capacity bs ms) (p .input));
-      }))
-
   module _ (x : Settings) (a : Answered) (t : Bool) (et : t ≡ aReadWaits (p .waiting)) where
     abbrev s : State
     s = get p bs ms []
@@ -136,7 +76,7 @@ module _ (p : Port) (bs ms : List ℕ) where
           wide : length ns ≡ N
           wide = subst (λ (k : ℕ). length ns ≡ length (take k ms)) en ln ∙ marks-long bs ms
 
-          there : Changes (p .settings .icanon) (x .icanon) (fitted N (p .input)) (take N bs) (take N ms) i cs ns
+          there : Changes (p .settings .icanon) (x .icanon) (fitted N (p .input)) (placeBytes bs ms) (placeMarks bs ms) i cs ns
           there =
               subst (λ (k : ℕ). Changes (p .settings .icanon) (x .icanon) (fitted k (p .input)) (take k bs) (take k ms) i cs ns) en
               (subst (λ (y : Input). Changes (p .settings .icanon) (x .icanon) y (take n bs) (take n ms) i cs ns) ef h)
@@ -146,10 +86,10 @@ module _ (p : Port) (bs ms : List ℕ) where
               record {
                 port = refl;
                 input =
-                    subst (λ (y : List ℕ). Changes (p .settings .icanon) (x .icanon) (fitted N (p .input)) (take N bs) (take N ms) i y
+                    subst (λ (y : List ℕ). Changes (p .settings .icanon) (x .icanon) (fitted N (p .input)) (placeBytes bs ms) (placeMarks bs ms) i y
                     (take N (ns ++ drop N ms)))
                     (sym (take-at cs (drop N bs) N long))
-                    (subst (λ (y : List ℕ). Changes (p .settings .icanon) (x .icanon) (fitted N (p .input)) (take N bs) (take N ms) i cs y)
+                    (subst (λ (y : List ℕ). Changes (p .settings .icanon) (x .icanon) (fitted N (p .input)) (placeBytes bs ms) (placeMarks bs ms) i cs y)
                     (sym (take-at ns (drop N ms) N wide)) there);
                 bytes = drop-at cs (drop N bs) N long;
                 marks = drop-at ns (drop N ms) N wide;

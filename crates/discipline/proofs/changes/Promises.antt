@@ -13,9 +13,9 @@ use Rattle.rules.specs.Settings.{acceptable, changedInput, changed}
 use Rattle.rules.specs.Step.{aReadWaits, setOn}
 use Rattle.input.specs.Contract as input
 use Rattle.input.specs.declared.Input.{Input}
-use Rattle.input.proofs.Laws.{After, fitted-same}
+use Rattle.input.proofs.Laws.{After}
 use Rattle.output.specs.Contract as output
-use Rattle.port.specs.State.{capacity, sizes, get}
+use Rattle.port.specs.State.{capacity, placeBytes, placeMarks, sizes, get}
 use Rattle.port.specs.Sending.{refused}
 use Rattle.port.specs.declared.Port.{Port}
 use Rattle.port.specs.declared.Answered.{Answered}
@@ -23,10 +23,9 @@ use Rattle.input.specs.Contract.{Sound}
 use Rattle.input.proofs.canonical.GoesOff.{one-laid, off-after}
 use Rattle.input.proofs.canonical.GoesOn.{one-line-on, on-after}
 use Rattle.port.specs.Calls.{stepOf, Now}
-use Rattle.port.proofs.Calls.{bytes-long, both-long}
+use Rattle.port.proofs.Calls.{fitted-sound, fitted-reads}
 use Rattle.port.proofs.Promises.{whole, same-answered, same-state, long-again}
 use Rattle.discipline.specs.changes.Contract.{Changes, resumed, withSettings, Changed, SetLeaves, Sets}
-use Rattle.discipline.proofs.changes.Laws.{fitted-sound}
 
 ---- No second result
 
@@ -45,8 +44,8 @@ one-left true p bs ms x r q bs′ ms′ cs ns h k = (h .0 ∙ sym (k .0), h .1 �
 one-left false p bs ms x r q bs′ ms′ cs ns h k =
     let n : ℕ = capacity bs ms in
     let same =
-    one-change (p .settings .icanon) (x .icanon) (input.fitted n (p .input)) (take n bs) (take n ms) (r .input) (q .input) (take n bs′) (take n ms′)
-    (take n cs) (take n ns) (h .input) (k .input) in (
+    one-change (p .settings .icanon) (x .icanon) (input.fitted n (p .input)) (placeBytes bs ms) (placeMarks bs ms) (r .input) (q .input)
+    (take n bs′) (take n ms′) (take n cs) (take n ns) (h .input) (k .input) in (
       h .port
           ∙ ap (λ (y : Input). withSettings p x y (resumed (p .settings .ixon) (x .ixon) (p .output))) (same .0)
           ∙ sym (k .port),
@@ -89,23 +88,20 @@ unfolding get output.get
 changed-now p r bs ms os x bs′ ms′ h =
     let N : ℕ = capacity bs ms in
     let f : Input = input.fitted N (p .input) in
-    let a : After (changedInput (p .settings .icanon) (x .icanon) (input.get f (take N bs) (take N ms))) (take N bs) (take N ms) (r .input) (take N bs′)
-    (take N ms′) =
-    change-after (p .settings .icanon) (x .icanon) f (r .input) (take N bs) (take N ms) (take N bs′) (take N ms′) (fitted-sound p bs ms f N refl refl)
-    (h .input) in
-    let fit : input.get f (take N bs) (take N ms) ≡ input.get (p .input) (take N bs) (take N ms) =
-    ap (λ (k : ℕ). input.get (input.fitted k (p .input)) (take N bs) (take N ms)) (sym (bytes-long bs ms))
-    ∙ fitted-same (p .input) (take N bs) (take N ms) (both-long p bs ms os) in
+    let a =
+    change-after (p .settings .icanon) (x .icanon) f (r .input) (placeBytes bs ms) (placeMarks bs ms) (take N bs′) (take N ms′)
+    (fitted-sound bs ms p f N refl refl) (h .input) in
     let lb : length bs′ ≡ length bs = long-again N bs′ bs (a .bytes) (h .bytes) in
     let lm : length ms′ ≡ length ms = long-again N ms′ ms (a .marks) (h .marks) in
     let n : capacity bs′ ms′ ≡ N = ap₂ min lb lm in
     let w : State = changed (get p bs ms os) x in
     record {
       state =
-          same-state (r .settings) (w .settings) (input.get (r .input) (take (capacity bs′ ms′) bs′) (take (capacity bs′ ms′) ms′)) (w .input)
+          same-state (r .settings) (w .settings) (input.get (r .input) (placeBytes bs′ ms′) (placeMarks bs′ ms′)) (w .input)
           (output.get (r .output) os) (w .output) (r .foreground) (w .foreground) (r .hung) (w .hungUp) (r .waiting) (w .waiting)
           (ap (λ (y : Port). y .settings) (h .port))
-          (ap (λ (k : ℕ). input.get (r .input) (take k bs′) (take k ms′)) n ∙ a .meaning ∙ ap (changedInput (p .settings .icanon) (x .icanon)) fit)
+          (ap (λ (k : ℕ). input.get (r .input) (take k bs′) (take k ms′)) n ∙ a .meaning
+          ∙ ap (changedInput (p .settings .icanon) (x .icanon)) (fitted-reads bs ms p))
           (ap (λ (y : Port). output.get (y .output) os) (h .port)) (ap (λ (y : Port). y .foreground) (h .port)) (ap (λ (y : Port). y .hung) (h .port))
           (ap (λ (y : Port). y .waiting) (h .port));
       sizes =

@@ -9,13 +9,13 @@ use Rattle.rules.specs.declared.Outcome.{Outcome}
 use Rattle.rules.specs.Sizes.{Sizes, State}
 use Rattle.rules.specs.Received as steps
 use Rattle.rules.specs.Step.{bytesIn}
-use Rattle.port.specs.State.{capacity, sizes, get}
+use Rattle.port.specs.State.{capacity, placeBytes, placeMarks, sizes, get}
 use Rattle.port.specs.declared.Port.{Port}
 use Rattle.port.specs.declared.Answered.{Answered}
 use Rattle.port.specs.Layers.{state, sizesOf, Becomes, Ranged, Turns}
 use Rattle.received.specs.Contract.{Answers}
 use Rattle.received.specs.declared.Reported.{Reported}
-use Rattle.port.proofs.Calls.{bytes-long, leaves-of, there, here, asks-as, ranged-ranged, turned-of}
+use Rattle.port.proofs.Calls.{bytes-long, within, leaves-of, there, here, asks-as, ranged-ranged, turned-of}
 use Rattle.port.specs.Calls.{stepOf, Calls, ranged, Asks}
 use mathlib.Core.Bool.{Bool, true, false}
 use lib.Dec.{eqb}
@@ -32,12 +32,6 @@ module _ (p : Port) (bs ms os : List ℕ) where
   abbrev N : ℕ
   N = capacity bs ms
 
-  abbrev first : List ℕ
-  first = take N bs
-
-  abbrev second : List ℕ
-  second = take N ms
-
   pub received-of : (e : Event) (q : Port) (n c : ℕ) (r : Reported) (a : Answered) (cs ns os′ : List ℕ) → n ≡ N → q ≡ ranged p n (length os)
       → length cs ≡ length (take n bs) → length ns ≡ length (take n ms)
       → Answers q (take n bs) (take n ms) os (steps.received (sizesOf q (length (take n bs)) (length os)) (state q (take n bs) (take n ms) os) e) r cs ns os′
@@ -50,30 +44,28 @@ module _ (p : Port) (bs ms os : List ℕ) where
       (sym en) from)
     where
       z : Sizes
-      z = sizesOf (ranged p (length first) (length os)) (length first) (length os)
+      z = sizesOf (within p bs ms os) (length (placeBytes bs ms)) (length os)
 
       s : State
-      s = state (ranged p (length first) (length os)) first second os
+      s = state (within p bs ms os) (placeBytes bs ms) (placeMarks bs ms) os
 
       same : steps.received z s e ≡ steps.received (sizes p bs ms os) (get p bs ms os) e
       same = ap₂ (λ (y : Sizes) (v : State). steps.received y v e) (there p bs ms os) (here p bs ms os)
 
-      given : Answers (ranged p (length first) (length os)) first second os (steps.received z s e) r cs ns os′
-      given =
-          subst (λ (k : ℕ). Answers (ranged p k (length os)) first second os (steps.received (sizesOf (ranged p k (length os)) (length first) (length os))
-          (state (ranged p k (length os)) first second os) e) r cs ns os′)
-          (sym (bytes-long bs ms))
-          (subst (λ (k : ℕ). Answers (ranged p k (length os)) (take k bs) (take k ms) os
-          (steps.received (sizesOf (ranged p k (length os)) (length (take k bs)) (length os)) (state (ranged p k (length os)) (take k bs) (take k ms) os) e) r
-          cs ns os′)
-          en
-          (subst (λ (y : Port). Answers y (take n bs) (take n ms) os
-          (steps.received (sizesOf y (length (take n bs)) (length os)) (state y (take n bs) (take n ms) os) e) r cs ns os′) eq h))
+      -- what the event comes to on the port y and the first k places
+      By : Port → ℕ → Type 0
+      By y k =
+          Answers y (take k bs) (take k ms) os (steps.received (sizesOf y (length (take k bs)) (length os)) (state y (take k bs) (take k ms) os) e) r cs ns os′
 
-      long : length cs ≡ length first
+      given : Answers (within p bs ms os) (placeBytes bs ms) (placeMarks bs ms) os (steps.received z s e) r cs ns os′
+      given =
+          subst (λ (k : ℕ). By (ranged p k (length os)) N) (sym (bytes-long bs ms))
+          (subst (λ (k : ℕ). By (ranged p k (length os)) k) en (subst (λ (y : Port). By y n) eq h))
+
+      long : length cs ≡ length (placeBytes bs ms)
       long = subst (λ (k : ℕ). length cs ≡ length (take k bs)) en lc
 
-      wide : length ns ≡ length second
+      wide : length ns ≡ length (placeMarks bs ms)
       wide = subst (λ (k : ℕ). length ns ≡ length (take k ms)) en ln
 
       from : Calls p bs ms os (stepOf p bs ms os (Receive e) []) (record { port = r .port; answer = record { outcome = r .outcome; count = c } })
@@ -85,13 +77,11 @@ module _ (p : Port) (bs ms os : List ℕ) where
                 ∙ ap (λ (k : ℕ). record { outcome = steps.received (sizes p bs ms os) (get p bs ms os) e .1; count = k }) hc;
             leaves =
                 leaves-of p bs ms os (steps.received (sizes p bs ms os) (get p bs ms os) e .0) (r .port) cs ns os′ long wide
-                (subst (λ (y : State). Becomes (ranged p (length first) (length os)) first second os y (r .port) cs ns os′)
+                (subst (λ (y : State). Becomes (within p bs ms os) (placeBytes bs ms) (placeMarks bs ms) os y (r .port) cs ns os′)
                 (ap (λ (y : State × Outcome). y .0) same) (given .port));
           }
 
----- One lemma for each way out of `flush`. Assumes nothing
-
----- Flushing
+---- One lemma for each way out of `flush`
 
 -- the output alone
 flushed-output : (q t : Port) (n : ℕ) (os : List ℕ) → Ranged q n (length os) → t ≡ flushed q (length os) → Turns q n os (λ z s. flushing.flushOutput s) t os

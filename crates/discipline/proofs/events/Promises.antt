@@ -26,9 +26,8 @@ module _ (p : Port) (bs ms os : List ℕ) where
       left-now p (r .port) bs ms os bs′ ms′ os′ (stepOf p bs ms os (Receive e) [] .0)
       (received-goes (sizes p bs ms os) (get p bs ms os) e (within-places p bs ms os) (within-queue p bs ms os)) (h .leaves)
 
----- The state after a flush is the rules' next state, at the same sizes. Assumes nothing
+  ---- A flush
 
-module _ (p : Port) (bs ms os : List ℕ) where
   pub flushed-now : (choice : ℕ) (r : Answered) → Asks p bs ms os (stepOf p bs ms os (Flush choice) []) r
       → Now p bs ms os (stepOf p bs ms os (Flush choice) [] .0) (r .port) bs ms os
   flushed-now choice r h =

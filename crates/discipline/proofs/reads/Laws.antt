@@ -1,6 +1,6 @@
--- A read that takes nothing, and one that is done. Assumes nothing.
+-- One lemma for each way out of the functions of a read. Assumes nothing.
 use mathlib.Core.Path.{_≡_, refl, sym, ap, subst, _∙_}
-use mathlib.Core.Bool.{Bool, true, false, cond, not, _||_}
+use mathlib.Core.Bool.{Bool, true, false, cond, _||_}
 use mathlib.Core.List.{List, [], _∷_}
 use Prim.Native.Nat.{ℕ, _+_, _-_, _%_}
 use native.Mathlib.Omega.{arith}
@@ -16,7 +16,7 @@ use Rattle.input.specs.Contract as input
 use Rattle.input.specs.declared.Input.{Input}
 use Rattle.input.specs.reading.Contract as reading
 use Rattle.input.specs.declared.reading.Taken.{Taken}
-use Rattle.port.specs.State.{get, capacity}
+use Rattle.port.specs.State.{get, capacity, placeBytes, placeMarks}
 use Rattle.port.specs.Sending.{refused}
 use Rattle.port.specs.declared.Port.{Port}
 use Rattle.port.specs.declared.Answered.{Answered}
@@ -24,28 +24,17 @@ use Rattle.port.specs.Layers.{assembled}
 use Rattle.port.proofs.Layers.{input-stays}
 use Rattle.discipline.specs.reads.Contract.{stateOf, took, ReadsFrom, finds, Reads}
 use lib.Dec.{eqb, ltb}
-use borrow.Author.Tests.{eq-eqb, ne-eqb, lt-ltb}
+use borrow.Author.Tests.{eq-eqb, ne-eqb}
 use Rattle.rules.specs.declared.Refusal.the-variants.{Nothing, ReadWaits}
-use Rattle.rules.specs.declared.Settings.{Settings}
-use Rattle.input.proofs.Laws.{finished-length, fitted-within, fitted-same}
+use Rattle.input.proofs.Laws.{finished-length}
 use Rattle.output.specs.Contract as output
-use Rattle.port.proofs.Calls.{bytes-long, marks-long}
-use Rattle.rules.specs.declared.Call.the-variants.{Cancel}
-use Rattle.port.specs.Calls.{stepOf, cancelled}
+use Rattle.port.proofs.Calls.{fitted-reads}
+use Rattle.waiting.proofs.Laws.{some}
 
 -- the answer by another name
-pub as-read : {v w : State × Reply} (p : Port) (i : Input) (bs ms d : List ℕ) (r : Answered) (d′ : List ℕ) → v ≡ w → ReadsFrom p i bs ms d v r d′
+as-read : {v w : State × Reply} (p : Port) (i : Input) (bs ms d : List ℕ) (r : Answered) (d′ : List ℕ) → v ≡ w → ReadsFrom p i bs ms d v r d′
     → ReadsFrom p i bs ms d w r d′
 as-read p i bs ms d r d′ e t = subst (λ (y : State × Reply). ReadsFrom p i bs ms d y r d′) e t
-
----- When a read finds what it asks for
-
-module _ (x : Settings) (k : ℕ) (w : Waiting) (n : ℕ) where
-  pub finds-line : x .icanon ≡ true → ltb 0 k ≡ finds x k w n
-  finds-line c = ap (λ (y : Bool). cond y (ltb 0 k) (rule.enough x n k || rule.expired w)) (sym c)
-
-  pub finds-bytes : (a b : Bool) → x .icanon ≡ false → (a || b) ≡ (rule.enough x n k || rule.expired w) → (a || b) ≡ finds x k w n
-  finds-bytes a b c e = e ∙ ap (λ (y : Bool). cond y (ltb 0 k) (rule.enough x n k || rule.expired w)) (sym c)
 
 ---- One lemma for each way out
 
@@ -61,7 +50,7 @@ module _ (p : Port) (i : Input) (bs ms d : List ℕ) (h : input.Sound i bs ms) w
       b .input ∙ ap (λ (y : ℕ). input.put (input.get i bs ms) (y % length bs)) k
 
   -- nothing is taken; the waiting read is w
-  pub none-taken : (w : Waiting) (o : Outcome) (q : Port) (r : Answered) → refused (record { outcome = o; count = 0 }) ≡ false
+  none-taken : (w : Waiting) (o : Outcome) (q : Port) (r : Answered) → refused (record { outcome = o; count = 0 }) ≡ false
       → q ≡ assembled p i (p .output) w
       → r ≡ record { port = q; answer = record { outcome = o; count = 0 } } → ReadsFrom p i bs ms d (withWaiting s w, says o 0) r d
   none-taken w o q r kept eq er =
@@ -75,7 +64,7 @@ module _ (p : Port) (i : Input) (bs ms d : List ℕ) (h : input.Sound i bs ms) w
             ∙ ap (λ (y : Bool). cond y p (took p i bs ms (withWaiting s w))) (sym kept);
       }
 
-  pub refused-of : (o : Outcome) (r : Answered) → refused (record { outcome = o; count = 0 }) ≡ true
+  refused-of : (o : Outcome) (r : Answered) → refused (record { outcome = o; count = 0 }) ≡ true
       → r ≡ record { port = p; answer = record { outcome = o; count = 0 } }
       → ReadsFrom p i bs ms d (s, says o 0) r d
   refused-of o r kept er =
@@ -86,7 +75,8 @@ module _ (p : Port) (i : Input) (bs ms d : List ℕ) (h : input.Sound i bs ms) w
       }
 
   -- a part is given
-  given : (t : rule.Part) (k : Taken) (q : Port) (r : Answered) (d′ : List ℕ) → reading.ReadsPart i bs ms d t k d′ → q ≡ assembled p (k .input) (p .output) Idle
+  given : (t : rule.Part) (k : Taken) (q : Port) (r : Answered) (d′ : List ℕ) → reading.ReadsPart i bs ms d t k d′
+      → q ≡ assembled p (k .input) (p .output) Idle
       → r ≡ record { port = q; answer = record { outcome = Ok; count = k .count } } → ReadsFrom p i bs ms d (rule.finish s t) r d′
   given t k q r d′ b eq er =
       record {
@@ -118,10 +108,6 @@ module _ (p : Port) (i : Input) (bs ms d : List ℕ) (h : input.Sound i bs ms) w
   empty-by [] = refl
   empty-by (q ∷ l) = ne-eqb (length (q ∷ l)) 0 (λ e. omega arith)
 
-  some-by : (l : List Place) → ltb 0 (length l) ≡ not (rule.isEmpty l)
-  some-by [] = refl
-  some-by (q ∷ l) = lt-ltb 0 (length (q ∷ l)) (omega arith)
-
   is-empty : eqb (i .ready) 0 ≡ rule.isEmpty (input.get i bs ms .finished)
   is-empty = ap (λ (n : ℕ). eqb n 0) (sym ready) ∙ empty-by (input.get i bs ms .finished)
 
@@ -133,7 +119,7 @@ module _ (p : Port) (i : Input) (bs ms d : List ℕ) (h : input.Sound i bs ms) w
       l = input.get i bs ms .finished
 
       by : (c : Bool) → cond c (ltb 0 (length l)) (rule.enough (p .settings) n (length l) || rule.expired (p .waiting)) ≡ rule.doneOn c s n
-      by true = some-by l
+      by true = sym (some l (length l) refl)
       by false = refl
 
   -- by the tests
@@ -218,18 +204,8 @@ module _ (p : Port) (i : Input) (bs ms d : List ℕ) (h : input.Sound i bs ms) w
 ---- The call
 
 module _ (p : Port) (bs ms : List ℕ) where
-  pub sound-places : (f : Input) (n : ℕ) → n ≡ capacity bs ms → f ≡ input.fitted n (p .input) → input.Sound f (take n bs) (take n ms)
-  sound-places f n en ef =
-      subst (λ (y : Input). input.Sound y (take n bs) (take n ms)) (sym ef)
-      (subst (λ (k : ℕ). input.Sound (input.fitted k (p .input)) (take k bs) (take k ms)) (sym en)
-      (record {
-        same = bytes-long bs ms ∙ sym (marks-long bs ms);
-        within = subst (λ (k : ℕ). input.Within (input.fitted (capacity bs ms) (p .input)) k) (sym (bytes-long bs ms))
-            (fitted-within (capacity bs ms) (p .input));
-      }))
-
   -- the state of the layers below is what get reads
-  pub there : stateOf p (input.fitted (capacity bs ms) (p .input)) (take (capacity bs ms) bs) (take (capacity bs ms) ms) ≡ get p bs ms []
+  pub there : stateOf p (input.fitted (capacity bs ms) (p .input)) (placeBytes bs ms) (placeMarks bs ms) ≡ get p bs ms []
   unfolding get
   there =
       ap (λ (y : RuledInput). record {
@@ -241,22 +217,14 @@ module _ (p : Port) (bs ms : List ℕ) where
             p .hung;
         waiting = p .waiting;
       })
-      (ap (λ (k : ℕ). input.get (input.fitted k (p .input)) (take (capacity bs ms) bs) (take (capacity bs ms) ms)) (sym (bytes-long bs ms))
-      ∙ fitted-same (p .input) (take (capacity bs ms) bs) (take (capacity bs ms) ms) (bytes-long bs ms ∙ sym (marks-long bs ms)))
+      (fitted-reads bs ms p)
 
   pub read-of : (f : Input) (n : ℕ) (d d′ : List ℕ) (nonblocking : Bool) (r : Answered) → n ≡ capacity bs ms → f ≡ input.fitted n (p .input)
       → ReadsFrom p f (take n bs) (take n ms) d (rule.read (stateOf p f (take n bs) (take n ms)) nonblocking (length d)) r d′
       → Reads p bs ms d nonblocking r d′
   read-of f n d d′ nonblocking r en ef t =
-      as-read p (input.fitted (capacity bs ms) (p .input)) (take (capacity bs ms) bs) (take (capacity bs ms) ms) d r d′
+      as-read p (input.fitted (capacity bs ms) (p .input)) (placeBytes bs ms) (placeMarks bs ms) d r d′
       (ap (λ (y : State). rule.read y nonblocking (length d)) there)
       (subst (λ (k : ℕ). ReadsFrom p (input.fitted k (p .input)) (take k bs) (take k ms) d
       (rule.read (stateOf p (input.fitted k (p .input)) (take k bs) (take k ms)) nonblocking (length d)) r d′) en
       (subst (λ (y : Input). ReadsFrom p y (take n bs) (take n ms) d (rule.read (stateOf p y (take n bs) (take n ms)) nonblocking (length d)) r d′) ef t))
-
----- Cancel
-
-pub cancel-of : (p q : Port) (a : Answered) → q ≡ assembled p (p .input) (p .output) Idle
-    → a ≡ record { port = q; answer = record { outcome = Ok; count = 0 } }
-    → a ≡ cancelled p (stepOf p [] [] [] Cancel [])
-cancel-of p q a eq ea = ea ∙ ap (λ (y : Port). record { port = y; answer = record { outcome = Ok; count = 0 } }) eq

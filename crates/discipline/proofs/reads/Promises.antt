@@ -1,12 +1,11 @@
 -- What the promise of a read is worth: no second result meets it, and the state after a read is the rules' next state, whatever the
 -- output is. Assumes nothing.
-use mathlib.Core.Path.{_≡_, refl, sym, ap, ap₂, subst, _∙_}
+use mathlib.Core.Path.{_≡_, refl, sym, ap, subst, _∙_}
 use mathlib.Core.Bool.{Bool, true, false, cond, false≢true}
 use mathlib.Core.List.{List, [], _++_}
 use Prim.Native.Nat.{ℕ, _+_, _%_}
-use lib.ListN.{length, take, drop}
+use lib.ListN.{length, drop}
 use lib.Dec.{eqb}
-use Rattle.rules.specs.declared.Answer.{Answer}
 use Rattle.rules.specs.declared.Call.the-variants.{Read, Cancel}
 use Rattle.rules.specs.declared.Outcome.the-variants.{Wait, Refused}
 use Rattle.rules.specs.declared.Refusal.the-variants.{Nothing, ReadWaits}
@@ -20,21 +19,22 @@ use Rattle.input.specs.declared.Input.{Input}
 use Rattle.output.specs.Contract as output
 use Rattle.input.specs.reading.Contract as reading
 use Rattle.input.proofs.reading.Laws.{line-after, bytes-after}
-use Rattle.port.specs.State.{capacity, sizes, get}
+use Rattle.port.specs.State.{capacity, placeBytes, placeMarks, sizes, get}
 use Rattle.port.specs.Sending.{refused}
 use Rattle.port.specs.declared.Port.{Port}
 use Rattle.port.specs.declared.Answered.{Answered}
 use Rattle.port.specs.Calls.{stepOf, Now, cancelled}
-use Rattle.port.proofs.Promises.{same-state}
+use Rattle.port.proofs.Calls.{fitted-sound}
+use Rattle.port.proofs.Promises.{same-answered, same-state}
 use Rattle.discipline.specs.reads.Contract.{Reads, stateOf, took, ReadsFrom}
-use Rattle.discipline.proofs.reads.Laws.{sound-places, there, same-place}
+use Rattle.discipline.proofs.reads.Laws.{there, same-place}
 
 ---- No second result
 
 pub one-taken : {p : Port} {i : Input} {bs ms d : List ℕ} {w : State × Reply} {r q : Answered} {d′ e′ : List ℕ} → ReadsFrom p i bs ms d w r d′
     → ReadsFrom p i bs ms d w q e′ → (r ≡ q) × (d′ ≡ e′)
 one-taken {r = r} {q = q} h k = (
-  ap₂ (λ (y : Port) (a : Answer). record { port = y; answer = a }) (h .port ∙ sym (k .port)) (h .answer ∙ sym (k .answer)),
+  same-answered r q (h .port ∙ sym (k .port)) (h .answer ∙ sym (k .answer)),
   h .buffer ∙ sym (k .buffer),
 )
 
@@ -62,7 +62,8 @@ module _ (p : Port) (i : Input) (bs ms d : List ℕ) (h : input.Sound i bs ms) w
       input.put (reading.leaves (input.get i bs ms) (t .left))
       ((i .queue .head + reading.gone (input.get i bs ms) (reading.leaves (input.get i bs ms) (t .left))) % length bs)
 
-  reads-part : (t : rule.Part) → reading.ReadsPart i bs ms d t (record { input = behind t; count = length (t .bytes) }) (t .bytes ++ drop (length (t .bytes)) d)
+  reads-part : (t : rule.Part)
+      → reading.ReadsPart i bs ms d t (record { input = behind t; count = length (t .bytes) }) (t .bytes ++ drop (length (t .bytes)) d)
   reads-part t = record { count = refl; input = refl; buffer = refl }
 
   part-left : (c : Bool)
@@ -150,20 +151,17 @@ module _ (p : Port) (bs ms os d : List ℕ) (nonblocking : Bool) where
   abbrev i₀ : Input
   i₀ = input.fitted N (p .input)
 
-  abbrev first : List ℕ
-  first = take N bs
-
-  abbrev second : List ℕ
-  second = take N ms
-
   abbrev w₀ : State × Reply
   w₀ = stepOf p bs ms [] (Read nonblocking) d
 
-  fine : Fine p i₀ first second w₀
+  abbrev took₀ : Port
+  took₀ = took p i₀ (placeBytes bs ms) (placeMarks bs ms) (w₀ .0)
+
+  fine : Fine p i₀ (placeBytes bs ms) (placeMarks bs ms) w₀
   fine =
-      subst (λ (y : State). Fine p i₀ first second (rule.read y nonblocking (length d))) (there p bs ms)
-      (read-fine p i₀ first second d (sound-places p bs ms i₀ N refl refl) (p .hung) (rule.clashes (p .waiting) nonblocking (length d)) (eqb (length d) 0)
-      nonblocking)
+      subst (λ (y : State). Fine p i₀ (placeBytes bs ms) (placeMarks bs ms) (rule.read y nonblocking (length d))) (there p bs ms)
+      (read-fine p i₀ (placeBytes bs ms) (placeMarks bs ms) d (fitted-sound bs ms p i₀ N refl refl) (p .hung)
+      (rule.clashes (p .waiting) nonblocking (length d)) (eqb (length d) 0) nonblocking)
 
   alike : (stepOf p bs ms os (Read nonblocking) d .0 ≡ withOutput (w₀ .0) (output.get (p .output) os)) × (stepOf p bs ms os (Read nonblocking) d .1 ≡ w₀ .1)
   unfolding get
@@ -172,15 +170,15 @@ module _ (p : Port) (bs ms os d : List ℕ) (nonblocking : Bool) where
       nonblocking
 
   -- by whether it is refused
-  left : (t : Bool) → refused (w₀ .1 .answer) ≡ t → get (cond t p (took p i₀ first second (w₀ .0))) bs ms os ≡ withOutput (w₀ .0) (output.get (p .output) os)
+  left : (t : Bool) → refused (w₀ .1 .answer) ≡ t → get (cond t p took₀) bs ms os ≡ withOutput (w₀ .0) (output.get (p .output) os)
   unfolding get
   left true e = ap (λ (y : State). withOutput y (output.get (p .output) os)) (sym (there p bs ms) ∙ sym (fine .kept e))
   left false e =
-      same-state (p .settings) (w₀ .0 .settings) (input.get (took p i₀ first second (w₀ .0) .input) first second) (w₀ .0 .input)
+      same-state (p .settings) (w₀ .0 .settings) (input.get (took₀ .input) (placeBytes bs ms) (placeMarks bs ms)) (w₀ .0 .input)
       (output.get (p .output) os) (output.get (p .output) os) (p .foreground) (w₀ .0 .foreground) (p .hung) (w₀ .0 .hungUp) (w₀ .0 .waiting) (w₀ .0 .waiting)
       (sym (fine .settings)) (fine .input) refl (sym (fine .foreground)) (sym (fine .hung)) refl
 
-  same-sizes : (t : Bool) → sizes (cond t p (took p i₀ first second (w₀ .0))) bs ms os ≡ sizes p bs ms os
+  same-sizes : (t : Bool) → sizes (cond t p took₀) bs ms os ≡ sizes p bs ms os
   same-sizes true = refl
   same-sizes false = refl
 

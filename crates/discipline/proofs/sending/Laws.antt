@@ -2,10 +2,10 @@
 use mathlib.Core.Path.{_≡_, refl, sym, ap, _∙_, ap₂}
 use mathlib.Core.Bool.{Bool, true, false, _&&_, false≢true, cond}
 use mathlib.Core.List.{List, [], _++_, _∷_}
-use Prim.Native.Nat.{ℕ, _%_, _<_, _≤_, _+_, _-_, min, suc}
+use Prim.Native.Nat.{ℕ, _%_, _≤_, _+_, _-_, min, suc}
 use lib.ListN.{length, take, drop, length-take, length-drop}
 use lib.Dec.{ltb, eqb}
-use borrow.Author.Tests.{eqb-true, lt-ltb, le-ltb}
+use borrow.Author.Tests.{eqb-true}
 use Rattle.queue.specs.Ring.{stores, ring}
 use Rattle.queue.proofs.Rings.{stores-length, ring-length, drop-ring}
 use Rattle.queue.proofs.Laws.{laid-again, put-same}
@@ -99,17 +99,11 @@ size-written p os src =
 
 ---- none of one byte or more
 
-pub some-bytes : (len count : ℕ) → 0 < len → eqb count 0 ≡ (ltb 0 len && eqb count 0)
-some-bytes len count lt = rw (lt-ltb 0 len lt)
-
-pub no-bytes : (len count : ℕ) → len ≤ 0 → false ≡ (ltb 0 len && eqb count 0)
-no-bytes len count le = rw (le-ltb 0 len le)
-
 pub counted-none : (t : Bool) (a : Bool) (n : ℕ) → t ≡ (a && eqb n 0) → t ≡ true → n ≡ 0
 counted-none t true n e f = eqb-true n 0 (sym e ∙ f)
 counted-none t false n e f = absurd (false≢true (sym e ∙ f))
 
----- The way out of a transmit: what is left stands where it stood. Assumes nothing
+---- The way out of a transmit: what is left stands where it stood
 
 cond-le : (t : Bool) (n : ℕ) (l : List ℕ) → length (cond t [] (take n l)) ≤ length l
 cond-le true n l = omega arith
@@ -140,7 +134,7 @@ sent-of p q os d d′ r a b eq e =
       answer = record { outcome = Ok; count = b .count i };
     })
 
----- Laws of a write that goes on from the rest. Assumes nothing
+---- Laws of a write that goes on from the rest
 
 ---- A write that goes on from the rest
 

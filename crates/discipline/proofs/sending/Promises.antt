@@ -68,7 +68,7 @@ state-transmitted p bs ms os d =
     get-with p bs ms os (rule.transmit (get p [] [] os) (length d) .0 .output) ((p .output .queue .head + k) % length os)
     (omega (arith, length-drop k (output.get (p .output) os .queue), law.get-room (p .output) os))
 
----- No second result meets the promise. Assumes nothing
+---- No second result meets the promise
 
 pub one-move : (p : Port) (os src d : List ℕ) (r q : Moved) (m k e f : List ℕ) → MovesThrough p os src d r m e → MovesThrough p os src d q k f
     → (r ≡ q) × (m ≡ k) × (e ≡ f)

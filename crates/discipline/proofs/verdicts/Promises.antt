@@ -35,9 +35,8 @@ module _ (p : Port) (bs ms os : List ℕ) where
       by true = (refl, refl)
       by false = (refl, refl)
 
----- The state after a verdict is the rules' next state, at the same sizes. Assumes nothing
+  ---- A verdict
 
-module _ (p : Port) (bs ms os : List ℕ) where
   -- a verdict v, the same whatever the slices are
   judged-now : (who : Process) (v : Verdict) (r : Answered) → r ≡ unchanged p (verdict.judged (get p [] [] []) who v)
       → Now p bs ms os (verdict.judged (get p bs ms os) who v .0) (r .port) bs ms os × (r .answer ≡ verdict.judged (get p bs ms os) who v .1 .answer)

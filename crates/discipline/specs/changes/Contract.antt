@@ -12,7 +12,7 @@ use Rattle.rules.specs.Refusals.{Reply}
 use Rattle.input.specs.declared.Input.{Input}
 use Rattle.input.specs.Contract.{fitted}
 use Rattle.output.specs.declared.Output.{Output}
-use Rattle.port.specs.State.{capacity}
+use Rattle.port.specs.State.{capacity, placeBytes, placeMarks}
 use Rattle.port.specs.Sending.{refused}
 use Rattle.port.specs.declared.Port.{Port}
 use Rattle.port.specs.declared.Answered.{Answered}
@@ -38,7 +38,7 @@ withSettings p x i o =
 pub record Changed (p : Port) (bs ms : List ℕ) (x : Settings) (r : Port) (bs′ ms′ : List ℕ) : Type 0 where
   pub port : r ≡ withSettings p x (r .input) (resumed (p .settings .ixon) (x .ixon) (p .output))
   pub input :
-      Changes (p .settings .icanon) (x .icanon) (fitted (capacity bs ms) (p .input)) (take (capacity bs ms) bs) (take (capacity bs ms) ms)
+      Changes (p .settings .icanon) (x .icanon) (fitted (capacity bs ms) (p .input)) (placeBytes bs ms) (placeMarks bs ms)
       (r .input) (take (capacity bs ms) bs′) (take (capacity bs ms) ms′)
   pub bytes : drop (capacity bs ms) bs′ ≡ drop (capacity bs ms) bs
   pub marks : drop (capacity bs ms) ms′ ≡ drop (capacity bs ms) ms

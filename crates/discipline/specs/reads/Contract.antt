@@ -3,7 +3,7 @@ use Prim.Native.Nat.{ℕ, _+_, _%_}
 use mathlib.Core.Path.{_≡_}
 use mathlib.Core.Bool.{cond, Bool, _||_}
 use mathlib.Core.List.{List, []}
-use lib.ListN.{length, take}
+use lib.ListN.{length}
 use Rattle.rules.specs.Sizes.{State}
 use Rattle.rules.specs.Refusals.{Reply, lentAfter}
 use Rattle.rules.specs.Reads.{finish, partOf, enough, expired}
@@ -19,7 +19,7 @@ use lib.Dec.{ltb}
 use Rattle.rules.specs.declared.Settings.{Settings}
 use Rattle.rules.specs.declared.Waiting.{Waiting}
 use Rattle.rules.specs.declared.Call.the-variants.{Read}
-use Rattle.port.specs.State.{capacity}
+use Rattle.port.specs.State.{capacity, placeBytes, placeMarks}
 use Rattle.port.specs.Calls.{stepOf}
 
 -- the port with the input i as a state; a read does not look at the output
@@ -65,4 +65,4 @@ finds x finished w n = cond (x .icanon) (ltb 0 finished) (enough x n finished ||
 -- A read of as many bytes as the buffer d has, of the places that both slices have.
 abbrev pub Reads : Port → List ℕ → List ℕ → List ℕ → Bool → Answered → List ℕ → Type 0
 Reads p bs ms d nonblocking r d′ =
-    ReadsFrom p (fitted (capacity bs ms) (p .input)) (take (capacity bs ms) bs) (take (capacity bs ms) ms) d (stepOf p bs ms [] (Read nonblocking) d) r d′
+    ReadsFrom p (fitted (capacity bs ms) (p .input)) (placeBytes bs ms) (placeMarks bs ms) d (stepOf p bs ms [] (Read nonblocking) d) r d′

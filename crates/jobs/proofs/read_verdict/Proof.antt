@@ -21,7 +21,7 @@ returns-2 c =
     let at-if1 = c .before .before .if1 in
     let at-free = c .before .before .before .free in
     let start = c .before .before .before .before in
-    let bound : free (start .args .g) (start .args .p) ≡ false = sym (at-free .ensures) ∙ at-if1 .left in
+    let bound : free (start .args .foreground) (start .args .who) ≡ false = sym (at-free .ensures) ∙ at-if1 .left in
     ⊎-elim
     (λ w. simp (bound, sym (c .before .deaf .ensures) ∙ w .taken))
     (λ w. simp (bound, sym (c .before .deaf .ensures) ∙ w .0 .left, w .1 .taken))

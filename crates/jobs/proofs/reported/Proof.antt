@@ -27,8 +27,8 @@ enum-told-7 c = search needs
 enum-told-8 : tie.Need-enum-told-8
 enum-told-8 c = search needs
 
-enum-known-f : tie.Need-enum-known-f
-enum-known-f c = search needs
+enum-known-foreground : tie.Need-enum-known-foreground
+enum-known-foreground c = search needs
 
 returns : tie.Need-returns
 returns c = search needs
@@ -52,7 +52,7 @@ returns-6 : tie.Need-returns-6
 returns-6 c = search needs
 
 returns-7 : tie.Need-returns-7
-returns-7 c = simp (c .before .before .before .before .enum-told7 .given .1, c .before .before .f .given .1, c .if1 .left)
+returns-7 c = simp (c .before .before .before .before .enum-told7 .given .1, c .before .before .foreground .given .1, c .if1 .left)
 
 returns-8 : tie.Need-returns-8
 returns-8 c = simp (c .enum-told9 .given .1)
@@ -69,7 +69,7 @@ reported-spec =
     enum-told-6
     enum-told-7
     enum-told-8
-    enum-known-f
+    enum-known-foreground
     returns
     enum-told-9
     returns-2

@@ -2,7 +2,8 @@
 use mathlib.Core.Path.{sym}
 use native.Mathlib.Omega.{arith}
 use lib.Seq.{length-take-le}
-use Rattle.discipline.proofs.changes.Laws.{fitted-sound, set-waits, set-good, set-bad}
+use Rattle.port.proofs.Calls.{fitted-sound}
+use Rattle.discipline.proofs.changes.Laws.{set-waits, set-good, set-bad}
 use borrow.Author.Needs.{needs}
 use Rattle.discipline.proofs.changes.set.Statement.{statement}
 use Rattle.discipline.proofs.changes.set.Tie as tie
@@ -52,7 +53,7 @@ change-input-requires c κs =
     let at-fit = c .before .before .fit in
     let at-least = c .before .before .before .before .before .before .least in
     let start = c .before .before .before .before .before .before .before .before .before .before .before .before .before in
-    fitted-sound (start .args .p) (start .args .bytes .now) (start .args .marks .now) (at-fit .result) (at-least .result) (at-least .ensures)
+    fitted-sound (start .args .bytes .now) (start .args .marks .now) (start .args .p) (at-fit .result) (at-least .result) (at-least .ensures)
     (at-fit .ensures)
 
 change-output-requires : tie.Need-change-output-requires

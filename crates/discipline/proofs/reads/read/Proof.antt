@@ -2,7 +2,8 @@
 use mathlib.Core.Path.{sym}
 use native.Mathlib.Omega.{arith}
 use lib.Seq.{length-take-le}
-use Rattle.discipline.proofs.reads.Laws.{sound-places, read-of}
+use Rattle.port.proofs.Calls.{fitted-sound}
+use Rattle.discipline.proofs.reads.Laws.{read-of}
 use borrow.Author.Needs.{needs}
 use Rattle.discipline.proofs.reads.read.Statement.{statement}
 use Rattle.discipline.proofs.reads.read.Tie as tie
@@ -30,7 +31,7 @@ ordered-requires c κs =
     let at-fit = c .before .before .before .fit in
     let at-least = c .before .before .before .before .before .least in
     let start = c .before .before .before .before .before .before .before .before .before in
-    sound-places (start .args .p) (start .args .bytes .now) (start .args .marks .now) (at-fit .result) (at-least .result) (at-least .ensures)
+    fitted-sound (start .args .bytes .now) (start .args .marks .now) (start .args .p) (at-fit .result) (at-least .result) (at-least .ensures)
     (at-fit .ensures)
 
 same-length : tie.Need-same-length

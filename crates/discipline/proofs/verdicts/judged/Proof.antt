@@ -1,5 +1,6 @@
 -- `discipline::verdicts::judged` meets its contract. Assumes nothing.
-use Rattle.discipline.proofs.verdicts.Laws.{judged-large, judged-none, judged-given}
+use mathlib.Core.Path.{sym, _∙_}
+use borrow.Author.Tests.{eq-eqb, ne-eqb}
 use borrow.Author.Needs.{needs}
 use Rattle.discipline.proofs.verdicts.judged.Statement.{statement}
 use Rattle.discipline.proofs.verdicts.judged.Tie as tie
@@ -11,33 +12,21 @@ says-requires : tie.Need-says-requires
 says-requires c κs = search needs
 
 returns : tie.Need-returns
-returns c =
-    let at-too-large = c .before .before .too-large in
-    let start = c .before .before .before in
-    judged-large (start .args .p) (start .args .who) (start .args .v) (c .says .result) (at-too-large .result) (at-too-large .ensures) (c .before .if1 .taken)
-    (c .says .ensures)
+returns c = simp (sym (c .before .before .too-large .ensures) ∙ c .before .if1 .taken) (c .says .ensures)
 
 says-requires-2 : tie.Need-says-requires-2
 says-requires-2 c κs = search needs
 
 returns-2 : tie.Need-returns-2
 returns-2 c =
-    let at-if1 = c .before .before .if1 in
-    let at-too-large = c .before .before .before .too-large in
-    let start = c .before .before .before .before in
-    judged-none (start .args .p) (start .args .who) (start .args .v) (c .says2 .result) (at-too-large .result) (at-too-large .ensures) (at-if1 .left)
-    (c .before .if2 .taken) (c .says2 .ensures)
+    simp (sym (c .before .before .before .too-large .ensures) ∙ c .before .before .if1 .left, eq-eqb _ _ (c .before .if2 .taken)) (c .says2 .ensures)
 
 says-requires-3 : tie.Need-says-requires-3
 says-requires-3 c κs = search needs
 
 returns-3 : tie.Need-returns-3
 returns-3 c =
-    let at-if1 = c .before .before .if1 in
-    let at-too-large = c .before .before .before .too-large in
-    let start = c .before .before .before .before in
-    judged-given (start .args .p) (start .args .who) (start .args .v) (c .says3 .result) (at-too-large .result) (at-too-large .ensures) (at-if1 .left)
-    (c .before .if2 .left) (c .says3 .ensures)
+    simp (sym (c .before .before .before .too-large .ensures) ∙ c .before .before .if1 .left, ne-eqb _ _ (c .before .if2 .left)) (c .says3 .ensures)
 
 pub judged-spec : {M : Type 1} → statement M
 judged-spec =

@@ -1,5 +1,4 @@
 -- `discipline::verdicts::settings_verdict` meets its contract. Assumes nothing.
-use Rattle.discipline.proofs.verdicts.Laws.{verdict-of}
 use Rattle.port.specs.State.{get}
 use borrow.Author.Needs.{needs}
 use Rattle.discipline.proofs.verdicts.settings_verdict.Statement.{statement}
@@ -13,10 +12,7 @@ judged-requires c κs = search needs
 
 returns : tie.Need-returns
 unfolding get
-returns c =
-    let start = c .before .before in
-    verdict-of (start .args .p) (start .args .who) (c .before .settings-verdict .result) (c .before .settings-verdict .ensures) (c .judged .result)
-    (c .judged .ensures)
+returns c = cc
 
 pub settings-verdict-spec : {M : Type 1} → statement M
 settings-verdict-spec = tie.close (tie.spec settings-verdict-requires judged-requires returns)

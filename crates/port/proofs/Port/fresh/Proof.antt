@@ -1,7 +1,4 @@
 -- `port::Port::fresh` meets its contract. Assumes nothing.
-use Rattle.rules.specs.declared.Waiting.the-variants.{Idle}
-use Rattle.rules.specs.declared.Group.the-variants.{Nobody}
-use mathlib.Core.Bool.{false}
 use borrow.Author.Needs.{needs}
 use Rattle.port.proofs.Port.fresh.Statement.{statement}
 use Rattle.port.proofs.Port.fresh.Tie as tie
@@ -16,16 +13,7 @@ fresh-requires-2 : tie.Need-fresh-requires-2
 fresh-requires-2 c κs = search needs
 
 returns : tie.Need-returns
-returns c =
-    λ i. record {
-      settings = c .before .before .defaults .ensures i;
-      line = 254;
-      input = c .before .fresh .ensures i;
-      output = c .fresh2 .ensures i;
-      foreground = Nobody;
-      hung = false;
-      waiting = Idle;
-    }
+returns c = cc
 
 pub fresh-spec : {M : Type 1} → statement M
 fresh-spec = tie.close (tie.spec defaults-requires fresh-requires fresh-requires-2 returns)
