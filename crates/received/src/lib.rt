@@ -24,6 +24,7 @@ use rules::Group;
 use rules::Outcome;
 use rules::Settings;
 use rules::Signal;
+use storing::Stored;
 
 // 2. 'IXON and IXANY: output resumes.'
 fn resumes(x: Settings, stopped: bool) -> bool
@@ -64,9 +65,9 @@ pub fn carries(p: Port, bytes: &mut [u8], marks: &mut [u8], out: &mut [u8], m: M
         Meaning::Starts => flushing::stopped_to(p, false),
         Meaning::Drops => p,
         Meaning::Edits(e, b) => edits::edit(p, bytes, marks, out, e, b),
-        Meaning::Ends(b) => storing::ends(p, bytes, marks, out, b),
-        Meaning::Marks => storing::marks_end(p, bytes, marks, out),
-        Meaning::Stores(b) => storing::stores(p, bytes, marks, out, b),
+        Meaning::Ends(b) => storing::stores(p, bytes, marks, out, Stored::Delimiter(b)),
+        Meaning::Marks => storing::stores(p, bytes, marks, out, Stored::Mark),
+        Meaning::Stores(b) => storing::stores(p, bytes, marks, out, Stored::Byte(b)),
     }
 }
 
@@ -188,7 +189,7 @@ pub fn received(p: Port, bytes: &mut [u8], marks: &mut [u8], out: &mut [u8], e: 
     match a {
         Arrival::Nothing => quiet(p),
         Arrival::Good(b) => good(p, bytes, marks, out, b),
-        Arrival::Silent(u) => quiet(storing::silently(p, bytes, marks, out, u)),
+        Arrival::Silent(u) => quiet(storing::stores(p, bytes, marks, out, Stored::Silent(u))),
         Arrival::Interrupt => interrupts(p, bytes.len(), out),
         Arrival::Tick => quiet(ticks(p)),
         Arrival::Hangup => hangs_up(p, bytes.len(), out),

@@ -28,8 +28,8 @@ good-requires c κs = search needs
 enum-known-a-2 : tie.Need-enum-known-a-2
 enum-known-a-2 c = search needs
 
-silently-requires : tie.Need-silently-requires
-silently-requires c κs = search needs
+stores-requires : tie.Need-stores-requires
+stores-requires c κs = search needs
 
 quiet-requires-2 : tie.Need-quiet-requires-2
 quiet-requires-2 c κs = search needs
@@ -103,7 +103,7 @@ same-length-6 c = search needs
 returns-3 : tie.Need-returns-3
 returns-3 c =
     let back = c .before .before .before .before .before .before .before .before .before .before .before .before in
-    let at-silently = c .before .before .before .before .before .before .before .silently in
+    let at-stores = c .before .before .before .before .before .before .before .stores in
     let at-a2 = c .before .before .before .before .before .before .before .before .before .before .before .before .a2 in
     let at-arrives = back .before .before .arrives in
     let start = back .before .before .before .before .before .before in
@@ -112,9 +112,9 @@ returns-3 c =
     let ms = (start .args .marks .now) in
     let os = (start .args .out .now) in
     let z = sizesOf p (length bs) (length os) in
-    happens p bs ms os (at-silently .last .1 .0) (at-silently .last .1 .1 .0) (at-silently .last .1 .1 .1 .0) z (start .args .e) (c .quiet2 .result)
-    (at-arrives .ensures) (at-a2 .given .1) (quiet-of p (at-silently .result) bs ms os (at-silently .last .1 .0) (at-silently .last .1 .1 .0)
-    (at-silently .last .1 .1 .1 .0) _ (c .quiet2 .result) (c .quiet2 .ensures) (at-silently .ensures))
+    happens p bs ms os (at-stores .last .1 .0) (at-stores .last .1 .1 .0) (at-stores .last .1 .1 .1 .0) z (start .args .e) (c .quiet2 .result)
+    (at-arrives .ensures) (at-a2 .given .1) (quiet-of p (at-stores .result) bs ms os (at-stores .last .1 .0) (at-stores .last .1 .1 .0)
+    (at-stores .last .1 .1 .1 .0) _ (c .quiet2 .result) (c .quiet2 .ensures) (at-stores .ensures))
 
 same-length-7 : tie.Need-same-length-7
 same-length-7 c = search needs
@@ -172,7 +172,7 @@ received-spec =
     enum-known-a
     good-requires
     enum-known-a-2
-    silently-requires
+    stores-requires
     quiet-requires-2
     enum-told-2
     interrupts-requires
