@@ -7,9 +7,9 @@ ghost use lib.Dec.{leb};
 ghost use Rattle.rules.specs.Lent.{before, after};
 ghost use Rattle.rules.specs.Editing.{erase, wordErase, kill, reprint};
 ghost use Rattle.input.specs.Contract.{Within};
-ghost use Rattle.port.specs.Layers.{Ranged, Ready, Becomes, state, sizesOf, unitsOf};
-ghost use Rattle.received.specs.edits.Contract.{without, Edited};
-ghost use Rattle.rules.specs.Received.{editOn};
+ghost use Rattle.port.specs.Layers.{Ranged, Ready};
+ghost use Rattle.received.specs.Contract.{Does};
+ghost use Rattle.received.specs.edits.Contract.{without, edits, Edited};
 ghost use Rattle.received.specs.meaning.Meaning.{editOf};
 use super::meaning::Edit;
 use editing::Run;
@@ -73,7 +73,7 @@ pub fn kills(p: Port, n: usize, out: &mut [u8], b: u8, run: Run) -> Port
 // REPRINT: the line stays, and is shown again
 pub fn reprints(p: Port, bytes: &[u8], marks: &[u8], out: &mut [u8], b: u8) -> Port
     requires { ⌜ Ready p (now bytes) (now marks) (now out) ⌝ }
-    ensures { λ r. ⌜ Becomes p (before bytes) (before marks) (before out) (editOn (unitsOf p (before bytes) (before marks)) (sizesOf p (length (before bytes)) (length (before out))) (state p (before bytes) (before marks) (before out)) reprint b) r (before bytes) (before marks) (after out) ⌝ }
+    ensures { λ r. ⌜ Does p (before bytes) (before marks) (before out) (edits reprint b) r (before bytes) (before marks) (after out) ⌝ }
 {
     let x = p.settings;
     let i = p.input;
@@ -85,7 +85,7 @@ pub fn reprints(p: Port, bytes: &[u8], marks: &[u8], out: &mut [u8], b: u8) -> P
 // 8. 'ICANON: ERASE, WERASE, KILL, REPRINT edit and are consumed.'
 pub fn edit(p: Port, bytes: &[u8], marks: &[u8], out: &mut [u8], e: Edit, b: u8) -> Port
     requires { ⌜ Ready p (now bytes) (now marks) (now out) ⌝ }
-    ensures { λ r. ⌜ Becomes p (before bytes) (before marks) (before out) (editOn (unitsOf p (before bytes) (before marks)) (sizesOf p (length (before bytes)) (length (before out))) (state p (before bytes) (before marks) (before out)) (editOf e) b) r (before bytes) (before marks) (after out) ⌝ }
+    ensures { λ r. ⌜ Does p (before bytes) (before marks) (before out) (edits (editOf e) b) r (before bytes) (before marks) (after out) ⌝ }
 {
     let x = p.settings;
     let i = p.input;

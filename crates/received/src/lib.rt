@@ -10,10 +10,10 @@ pub mod storing;
 
 ghost use mathlib.Core.Path.{_≡_};
 ghost use Rattle.rules.specs.Lent.{before, after};
-ghost use Rattle.received.specs.Contract.{stoppedThen, begun, Answers, Tells, Announces, hungUp};
+ghost use Rattle.received.specs.Contract.{stoppedThen, begun, Does, Reports, Tells, Announces, hungUp};
 ghost use lib.ListN.{length};
-ghost use Rattle.received.specs.meaning.Meaning.{meaningOf};
-ghost use Rattle.port.specs.Layers.{Becomes, Ready, state, sizesOf, Ranged, assembled};
+ghost use Rattle.received.specs.meaning.Meaning.{carryOf};
+ghost use Rattle.port.specs.Layers.{Ready, Ranged, assembled};
 ghost use Rattle.rules.specs.Received as steps;
 ghost use Rattle.rules.specs.Flushing as flushing;
 use arrival::Arrival;
@@ -55,7 +55,7 @@ pub fn begins(p: Port) -> Port
 // what a good byte means is carried out
 pub fn carries(p: Port, bytes: &mut [u8], marks: &mut [u8], out: &mut [u8], m: Meaning) -> Port
     requires { ⌜ Ready p (now bytes) (now marks) (now out) ⌝ }
-    ensures { λ r. ⌜ Becomes p (before bytes) (before marks) (before out) (steps.carry (sizesOf p (length (before bytes)) (length (before out))) (state p (before bytes) (before marks) (before out)) (meaningOf (p .settings) m) .0) r (after bytes) (after marks) (after out) ⌝ }
+    ensures { λ r. ⌜ Does p (before bytes) (before marks) (before out) (carryOf m) r (after bytes) (after marks) (after out) ⌝ }
 {
     let n = bytes.len();
     match m {
@@ -96,7 +96,7 @@ fn tells(m: Meaning, f: Group) -> Outcome
 // a good byte, steps 1 to 9
 pub fn good(p: Port, bytes: &mut [u8], marks: &mut [u8], out: &mut [u8], b: u8) -> Reported
     requires { ⌜ Ready p (now bytes) (now marks) (now out) ⌝ }
-    ensures { λ r. ⌜ Answers p (before bytes) (before marks) (before out) (steps.good (sizesOf p (length (before bytes)) (length (before out))) (state p (before bytes) (before marks) (before out)) b) r (after bytes) (after marks) (after out) ⌝ }
+    ensures { λ r. ⌜ Reports p (before bytes) (before marks) (before out) (λ z s. steps.good z s b) r (after bytes) (after marks) (after out) ⌝ }
 {
     let x = p.settings;
     let i = p.input;
@@ -183,7 +183,7 @@ fn hangs_up(p: Port, n: usize, out: &[u8]) -> Reported
 // what an event comes to is carried out
 pub fn received(p: Port, bytes: &mut [u8], marks: &mut [u8], out: &mut [u8], e: Event) -> Reported
     requires { ⌜ Ready p (now bytes) (now marks) (now out) ⌝ }
-    ensures { λ r. ⌜ Answers p (before bytes) (before marks) (before out) (steps.received (sizesOf p (length (before bytes)) (length (before out))) (state p (before bytes) (before marks) (before out)) e) r (after bytes) (after marks) (after out) ⌝ }
+    ensures { λ r. ⌜ Reports p (before bytes) (before marks) (before out) (λ z s. steps.received z s e) r (after bytes) (after marks) (after out) ⌝ }
 {
     let a = arrival::arrives(p.settings, p.hung, e);
     match a {

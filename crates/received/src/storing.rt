@@ -4,7 +4,8 @@ ghost use lib.ListN.{length};
 ghost use Rattle.rules.specs.Lent.{before, after};
 ghost use Rattle.input.specs.Contract.{Within, Room, InputBecomes, get};
 ghost use Rattle.output.specs.Contract.{Echoes, inRange};
-ghost use Rattle.port.specs.Layers.{Becomes, Ready, state, sizesOf};
+ghost use Rattle.port.specs.Layers.{Ready};
+ghost use Rattle.received.specs.Contract.{Does};
 ghost use Rattle.received.specs.storing.Contract.{Fits, placesOf, keptOf, echoOf};
 ghost use Rattle.received.specs.storing.Contract as rule;
 use super::flushing;
@@ -74,7 +75,7 @@ fn shown(o: Output, x: Settings, out: &mut [u8], what: Stored) -> Output
 // 9. 'Store', and what that shows; 'what does not fit is dropped without echo'
 pub fn stores(p: Port, bytes: &mut [u8], marks: &mut [u8], out: &mut [u8], what: Stored) -> Port
     requires { ⌜ Ready p (now bytes) (now marks) (now out) ⌝ }
-    ensures { λ r. ⌜ Becomes p (before bytes) (before marks) (before out) (rule.stores (sizesOf p (length (before bytes)) (length (before out))) (state p (before bytes) (before marks) (before out)) what) r (after bytes) (after marks) (after out) ⌝ }
+    ensures { λ r. ⌜ Does p (before bytes) (before marks) (before out) (rule.stores what) r (after bytes) (after marks) (after out) ⌝ }
 {
     let x = p.settings;
     let i = p.input;

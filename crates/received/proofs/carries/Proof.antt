@@ -71,7 +71,9 @@ same-length c = search needs
 returns-2 : tie.Need-returns-2
 returns-2 c =
     let start = c .before .before .before .before .before .before .before .before .before .before in
-    rw (c .before .before .before .before .before .m .given .1) ((c .before .before .signals .ensures) (start .args .bytes .now) (start .args .marks .now) refl (sym (start .pre .same)))
+    let at-signals = c .before .before .signals in
+    let at-m = c .before .before .before .before .before .m in
+    rw (at-m .given .1) ((at-signals .ensures) (start .args .bytes .now) (start .args .marks .now) refl (sym (start .pre .same)))
 
 returns-3 : tie.Need-returns-3
 returns-3 c =
@@ -116,7 +118,9 @@ same-length-7 c = search needs
 
 returns-7 : tie.Need-returns-7
 returns-7 c =
-    rw (c .before .before .before .before .before .before .before .before .before .before .before .m3 .given .1) (c .before .before .before .before .before .before .stores .ensures)
+    let at-stores = c .before .before .before .before .before .before .stores in
+    let at-m3 = c .before .before .before .before .before .before .before .before .before .before .before .m3 in
+    rw (at-m3 .given .1) (at-stores .ensures)
 
 same-length-8 : tie.Need-same-length-8
 same-length-8 c = search needs
@@ -129,7 +133,9 @@ same-length-10 c = search needs
 
 returns-8 : tie.Need-returns-8
 returns-8 c =
-    rw (c .before .before .before .before .before .before .before .before .before .before .enum-told5 .given .1) (c .before .before .before .before .before .before .stores2 .ensures)
+    let at-stores2 = c .before .before .before .before .before .before .stores2 in
+    let at-enum-told5 = c .before .before .before .before .before .before .before .before .before .before .enum-told5 in
+    rw (at-enum-told5 .given .1) (at-stores2 .ensures)
 
 same-length-11 : tie.Need-same-length-11
 same-length-11 c = search needs
@@ -142,7 +148,9 @@ same-length-13 c = search needs
 
 returns-9 : tie.Need-returns-9
 returns-9 c =
-    rw (c .before .before .before .before .before .before .before .before .before .before .before .m4 .given .1) (c .before .before .before .before .before .before .stores3 .ensures)
+    let at-stores3 = c .before .before .before .before .before .before .stores3 in
+    let at-m4 = c .before .before .before .before .before .before .before .before .before .before .before .m4 in
+    rw (at-m4 .given .1) (at-stores3 .ensures)
 
 pub carries-spec : {M : Type 1} → statement M
 carries-spec =

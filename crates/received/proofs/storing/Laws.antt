@@ -22,6 +22,7 @@ use Rattle.output.specs.Contract.{Echoes}
 use Rattle.port.specs.declared.Port.{Port}
 use Rattle.port.specs.Layers.{state, sizesOf, Ready, Becomes, Turns, assembled}
 use Rattle.port.proofs.Layers.{as-state, as-assembled}
+use Rattle.received.specs.Contract.{Does}
 use Rattle.received.specs.storing.Contract.{placesOf, echoOf, keptOf, Fits, stores}
 use Rattle.received.specs.declared.storing.Stored.{Stored}
 use Rattle.received.specs.declared.storing.Stored.the-variants.{Byte, Silent, Delimiter, Mark}
@@ -129,7 +130,7 @@ module _ (p : Port) (bs ms os : List ℕ) (g : Ready p bs ms os) where
       → input.InputBecomes (p .input) bs ms (keptOf (p .settings) (input.get (p .input) bs ms) what) i bs′ ms′
       → Echoes (p .settings) (p .output) os (echoOf (p .settings) what) o os′
       → r ≡ assembled p i o timed
-      → Becomes p bs ms os (stores (sizesOf p (length bs) (length os)) (state p bs ms os) what) r bs′ ms′ os′
+      → Does p bs ms os (stores what) r bs′ ms′ os′
   stored-of (Byte b) t i o r bs′ ms′ os′ tells e k h er =
       stored-unit (placesOf (p .settings) (Byte b)) (echoOf (p .settings) (Byte b)) t i o r bs′ ms′ os′ tells e k h er
   stored-of (Silent u) t i o r bs′ ms′ os′ tells e k h er = stored-unit (input.unitOf u) [] t i o r bs′ ms′ os′ tells e k h er
@@ -138,7 +139,7 @@ module _ (p : Port) (bs ms os : List ℕ) (g : Ready p bs ms os) where
   stored-of Mark t i o r bs′ ms′ os′ tells e k h er = ended-line endOfFile [] t i o r bs′ ms′ os′ tells e k h er
 
   pub dropped-of : (what : Stored) (t : Bool) (r : Port) (os′ : List ℕ) → Fits p (length bs) what t → t ≡ false → Turns p (length bs) os fit.overflow r os′
-      → Becomes p bs ms os (stores (sizesOf p (length bs) (length os)) (state p bs ms os) what) r bs ms os′
+      → Does p bs ms os (stores what) r bs ms os′
   dropped-of (Byte b) t r os′ tells e h = dropped-unit (placesOf (p .settings) (Byte b)) (echoOf (p .settings) (Byte b)) t r os′ tells e h
   dropped-of (Silent u) t r os′ tells e h = dropped-unit (input.unitOf u) [] t r os′ tells e h
   dropped-of (Delimiter b) t r os′ tells e h = dropped-end (delimiter b) (echoOf (p .settings) (Delimiter b)) t r os′ tells e h

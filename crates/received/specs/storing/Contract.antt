@@ -41,9 +41,9 @@ Fits p n (Silent u) r = TellsUnit (p .input) n (p .line) (p .settings .icanon) (
 Fits p n (Delimiter b) r = TellsEnd (p .input) n r
 Fits p n Mark r = TellsEnd (p .input) n r
 
--- the state once it is stored, or dropped
-abbrev pub stores : Sizes → State → Stored → State
-stores z s (Byte b) = storesUnit z s (unit false b (doubled (s .settings) b)) (storedEcho (s .settings) b)
-stores z s (Silent u) = storesUnit z s (unitOf u) []
-stores z s (Delimiter b) = storesEnd z s (delimiter b) (storedEcho (s .settings) b)
-stores z s Mark = storesEnd z s endOfFile []
+-- the rules' step: it is stored, or dropped
+abbrev pub stores : Stored → Sizes → State → State
+stores (Byte b) z s = storesUnit z s (unit false b (doubled (s .settings) b)) (storedEcho (s .settings) b)
+stores (Silent u) z s = storesUnit z s (unitOf u) []
+stores (Delimiter b) z s = storesEnd z s (delimiter b) (storedEcho (s .settings) b)
+stores Mark z s = storesEnd z s endOfFile []
