@@ -33,9 +33,7 @@ fn without(p: Port, n: usize, run: Run) -> Port
 {
     let i = p.input;
     let input = i.cut(n, run.at);
-    let output = p.output;
-    let waiting = p.waiting;
-    port::assemble(p, input, output, waiting)
+    Port { input: input, ..p }
 }
 
 // ERASE and WERASE by the character b: the units of the run are gone, and what that shows is shown; on an empty line nothing

@@ -21,13 +21,16 @@ pub fn flush_input(p: Port, n: usize, out: &[u8]) -> Port
     requires { ⌜ Ranged p n (length (now out)) ⌝ }
     ensures { λ r. ⌜ Turns p n (before out) (λ z s. flushing.flushInput s) r (before out) ⌝ }
 {
-    let i = p.input;
     let x = p.settings;
+    let i = p.input;
+    let w = p.waiting;
     let input = i.flush(n);
-    let output = p.output;
-    let waiting = p.waiting;
-    let w = waiting::timer_flushed(waiting::between_bytes(x), waiting);
-    port::assemble(p, input, output, w)
+    let waiting = waiting::timer_flushed(waiting::between_bytes(x), w);
+    Port {
+        input: input,
+        waiting: waiting,
+        ..p
+    }
 }
 
 // 'What does not fit is dropped without echo: IMAXBEL queues byte 7 unprocessed, if there is room; else all input is flushed.'
@@ -39,9 +42,7 @@ pub fn overflow(p: Port, n: usize, out: &mut [u8]) -> Port
     if x.imaxbel {
         let o = p.output;
         let output = output::bell(o, x, out);
-        let input = p.input;
-        let waiting = p.waiting;
-        return port::assemble(p, input, output, waiting);
+        return p.with_output(output);
     }
     flush_input(p, n, out)
 }
@@ -51,9 +52,14 @@ pub fn stored(p: Port, input: Input, output: Output) -> Port
     ensures { λ r. ⌜ r ≡ assembled p input output (fit.timerStored (flushing.betweenBytes (p .settings)) (p .settings) (p .waiting)) ⌝ }
 {
     let x = p.settings;
-    let waiting = p.waiting;
-    let w = waiting::timer_stored(waiting::between_bytes(x), x, waiting);
-    port::assemble(p, input, output, w)
+    let w = p.waiting;
+    let waiting = waiting::timer_stored(waiting::between_bytes(x), x, w);
+    Port {
+        input: input,
+        output: output,
+        waiting: waiting,
+        ..p
+    }
 }
 
 // 6. 'STOP stops output, START resumes it.'
@@ -71,9 +77,7 @@ pub fn sets_literal(p: Port) -> Port
 {
     let i = p.input;
     let input = i.with_literal(true);
-    let output = p.output;
-    let waiting = p.waiting;
-    port::assemble(p, input, output, waiting)
+    Port { input: input, ..p }
 }
 
 // 'Flushing input drops .. . Flushing output empties its queue; column and "stopped" stay.'

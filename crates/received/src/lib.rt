@@ -48,8 +48,11 @@ pub fn begins(p: Port) -> Port
     let o = p.output;
     let input = i.with_literal(false);
     let output = o.stop(resumes(x, o.stopped));
-    let waiting = p.waiting;
-    port::assemble(p, input, output, waiting)
+    Port {
+        input: input,
+        output: output,
+        ..p
+    }
 }
 
 // what a good byte means is carried out
@@ -144,30 +147,18 @@ fn interrupts(p: Port, n: usize, out: &[u8]) -> Reported
 fn ticks(p: Port) -> Port
     ensures { λ r. ⌜ r ≡ assembled p (p .input) (p .output) (steps.lowered (p .waiting)) ⌝ }
 {
-    let input = p.input;
-    let output = p.output;
-    let old = p.waiting;
-    let w = waiting::lowered(old);
-    port::assemble(p, input, output, w)
+    let w = p.waiting;
+    let waiting = waiting::lowered(w);
+    Port {
+        waiting: waiting,
+        ..p
+    }
 }
 
 fn hung_up(p: Port) -> Port
     ensures { λ r. ⌜ r ≡ hungUp p ⌝ }
 {
-    let settings = p.settings;
-    let input = p.input;
-    let output = p.output;
-    let foreground = p.foreground;
-    let waiting = p.waiting;
-    Port {
-        settings: settings,
-        line: p.line,
-        input: input,
-        output: output,
-        foreground: foreground,
-        hung: true,
-        waiting: waiting,
-    }
+    Port { hung: true, ..p }
 }
 
 // 'both queues are flushed, the port is hung up, HUP goes to the controlling process'
