@@ -18,7 +18,7 @@ use rules::Settings;
 
 // What an event stores: a good byte | the unit of a break or a broken byte, 'literal', with 'no echo' |
 // a delimiter, which 'is stored and ends the line' | 'a mark that ends it, without echo'
-pub enum Stored {
+pub(crate) enum Stored {
     Byte(u8),
     Silent(Unit),
     Delimiter(u8),
@@ -73,7 +73,13 @@ fn shown(o: Output, x: Settings, out: &mut [u8], what: Stored) -> Output
 }
 
 // 9. 'Store', and what that shows; 'what does not fit is dropped without echo'
-pub fn stores(p: Port, bytes: &mut [u8], marks: &mut [u8], out: &mut [u8], what: Stored) -> Port
+pub(crate) fn stores(
+    p: Port,
+    bytes: &mut [u8],
+    marks: &mut [u8],
+    out: &mut [u8],
+    what: Stored,
+) -> Port
     requires { ⌜ Ready p (now bytes) (now marks) (now out) ⌝ }
     ensures { λ r. ⌜ Does p (before bytes) (before marks) (before out) (rule.stores what) r (after bytes) (after marks) (after out) ⌝ }
 {

@@ -13,8 +13,8 @@ enum-told c = search needs
 sets-literal-requires : tie.Need-sets-literal-requires
 sets-literal-requires c κs = search needs
 
-enum-known-m : tie.Need-enum-known-m
-enum-known-m c = search needs
+enum-known-meaning : tie.Need-enum-known-meaning
+enum-known-meaning c = search needs
 
 signals-requires : tie.Need-signals-requires
 signals-requires c κs = search needs
@@ -34,14 +34,14 @@ stopped-to-requires-2 c κs = search needs
 enum-told-4 : tie.Need-enum-told-4
 enum-told-4 c = search needs
 
-enum-known-m-2 : tie.Need-enum-known-m-2
-enum-known-m-2 c = search needs
+enum-known-meaning-2 : tie.Need-enum-known-meaning-2
+enum-known-meaning-2 c = search needs
 
 edit-requires : tie.Need-edit-requires
 edit-requires c κs = search needs
 
-enum-known-m-3 : tie.Need-enum-known-m-3
-enum-known-m-3 c = search needs
+enum-known-meaning-3 : tie.Need-enum-known-meaning-3
+enum-known-meaning-3 c = search needs
 
 stores-requires : tie.Need-stores-requires
 stores-requires c κs = search needs
@@ -52,8 +52,8 @@ enum-told-5 c = search needs
 stores-requires-2 : tie.Need-stores-requires-2
 stores-requires-2 c κs = search needs
 
-enum-known-m-4 : tie.Need-enum-known-m-4
-enum-known-m-4 c = search needs
+enum-known-meaning-4 : tie.Need-enum-known-meaning-4
+enum-known-meaning-4 c = search needs
 
 stores-requires-3 : tie.Need-stores-requires-3
 stores-requires-3 c κs = search needs
@@ -72,8 +72,8 @@ returns-2 : tie.Need-returns-2
 returns-2 c =
     let start = c .before .before .before .before .before .before .before .before .before .before in
     let at-signals = c .before .before .signals in
-    let at-m = c .before .before .before .before .before .m in
-    rw (at-m .given .1) ((at-signals .ensures) (start .args .bytes .now) (start .args .marks .now) refl (sym (start .pre .same)))
+    let at-meaning = c .before .before .before .before .before .meaning in
+    rw (at-meaning .given .1) ((at-signals .ensures) (start .args .bytes .now) (start .args .marks .now) refl (sym (start .pre .same)))
 
 returns-3 : tie.Need-returns-3
 returns-3 c =
@@ -105,7 +105,7 @@ same-length-4 c = search needs
 
 returns-6 : tie.Need-returns-6
 returns-6 c =
-    rw (c .before .before .before .before .before .before .before .m2 .given .1) (c .before .before .edit .ensures)
+    rw (c .before .before .before .before .before .before .before .meaning2 .given .1) (c .before .before .edit .ensures)
 
 same-length-5 : tie.Need-same-length-5
 same-length-5 c = search needs
@@ -119,8 +119,8 @@ same-length-7 c = search needs
 returns-7 : tie.Need-returns-7
 returns-7 c =
     let at-stores = c .before .before .before .before .before .before .stores in
-    let at-m3 = c .before .before .before .before .before .before .before .before .before .before .before .m3 in
-    rw (at-m3 .given .1) (at-stores .ensures)
+    let at-meaning3 = c .before .before .before .before .before .before .before .before .before .before .before .meaning3 in
+    rw (at-meaning3 .given .1) (at-stores .ensures)
 
 same-length-8 : tie.Need-same-length-8
 same-length-8 c = search needs
@@ -149,8 +149,8 @@ same-length-13 c = search needs
 returns-9 : tie.Need-returns-9
 returns-9 c =
     let at-stores3 = c .before .before .before .before .before .before .stores3 in
-    let at-m4 = c .before .before .before .before .before .before .before .before .before .before .before .m4 in
-    rw (at-m4 .given .1) (at-stores3 .ensures)
+    let at-meaning4 = c .before .before .before .before .before .before .before .before .before .before .before .meaning4 in
+    rw (at-meaning4 .given .1) (at-stores3 .ensures)
 
 pub carries-spec : {M : Type 1} → statement M
 carries-spec =
@@ -158,20 +158,20 @@ carries-spec =
     (tie.spec
     enum-told
     sets-literal-requires
-    enum-known-m
+    enum-known-meaning
     signals-requires
     enum-told-2
     stopped-to-requires
     enum-told-3
     stopped-to-requires-2
     enum-told-4
-    enum-known-m-2
+    enum-known-meaning-2
     edit-requires
-    enum-known-m-3
+    enum-known-meaning-3
     stores-requires
     enum-told-5
     stores-requires-2
-    enum-known-m-4
+    enum-known-meaning-4
     stores-requires-3
     returns
     same-length

@@ -8,8 +8,8 @@ use Rattle.received.proofs.tells.Tie as tie
 enum-told : tie.Need-enum-told
 enum-told c = search needs
 
-enum-known-m : tie.Need-enum-known-m
-enum-known-m c = search needs
+enum-known-meaning : tie.Need-enum-known-meaning
+enum-known-meaning c = search needs
 
 reported-requires : tie.Need-reported-requires
 reported-requires c κs = search needs
@@ -40,8 +40,8 @@ returns c = rw (c .enum-told .given .1) (λ z s x e. refl)
 
 returns-2 : tie.Need-returns-2
 returns-2 c =
-    let at-m = c .before .before .m in
-    rw (at-m .given .1) (λ z s x e. (c .reported .ensures) ∙ ap (reported (at-m .given .0 .0)) (sym e))
+    let at-meaning = c .before .before .meaning in
+    rw (at-meaning .given .1) (λ z s x e. (c .reported .ensures) ∙ ap (reported (at-meaning .given .0 .0)) (sym e))
 
 returns-3 : tie.Need-returns-3
 returns-3 c = rw (c .enum-told2 .given .1) (λ z s x e. refl)
@@ -69,7 +69,7 @@ tells-spec =
     tie.close
     (tie.spec
     enum-told
-    enum-known-m
+    enum-known-meaning
     reported-requires
     enum-told-2
     enum-told-3
