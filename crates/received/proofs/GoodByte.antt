@@ -1,4 +1,4 @@
--- One lemma for each way out of `resumes`. Assumes nothing.
+-- A good byte: step 2, and what it means carried out from step 3 on. Assumes nothing.
 use mathlib.Core.Path.{_≡_, sym, ap, _∙_, subst, refl}
 use mathlib.Core.Bool.{Bool, true, false, not, _&&_, and-false, and-true}
 use Rattle.rules.specs.declared.Settings.{Settings}
@@ -25,8 +25,6 @@ resumes-both x t a b = sym (ap (λ (y : Bool). t && not (y && x .ixany)) a ∙ a
 
 pub resumes-not : (x : Settings) (t : Bool) → (x .ixon && x .ixany) ≡ false → t ≡ stoppedThen x t
 resumes-not x t a = sym (ap (λ (y : Bool). t && not y) a ∙ and-true t)
-
----- One lemma for each way out of the functions of this crate. Assumes nothing
 
 ---- The port at step 3
 

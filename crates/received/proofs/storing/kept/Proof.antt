@@ -1,4 +1,9 @@
 -- `received::storing::kept` meets its contract. Assumes nothing.
+use mathlib.Core.Path.{sym, subst}
+use mathlib.Core.List.{List}
+use lib.ListN.{length}
+use Rattle.rules.specs.Sizes.{Place}
+use Rattle.input.specs.Contract.{Room}
 use borrow.Author.Needs.{needs}
 use Rattle.received.proofs.storing.kept.Statement.{statement}
 use Rattle.received.proofs.storing.kept.Tie as tie
@@ -13,7 +18,8 @@ store-requires : tie.Need-store-requires
 store-requires c κs =
     let at-what = c .before .before .before .before .what in
     let start = c .before .before .before .before .before .before .before .before in
-    rw (c .before .before .unit-of .ensures) (rw (at-what .given .1) at (start .pre))
+    subst (λ (y : List Place). Room (start .args .i) (start .args .bytes .now) (start .args .marks .now) (length y)) (sym (c .before .before .unit-of .ensures))
+    (rw (at-what .given .1) at (start .pre))
 
 enum-known-what-2 : tie.Need-enum-known-what-2
 enum-known-what-2 c = search needs
