@@ -1,4 +1,4 @@
--- One lemma for each way out of the functions of this crate. Assumes nothing.
+-- One lemma for each way out of an event. Assumes nothing.
 use mathlib.Core.Path.{_≡_, refl, sym, ap, subst, _∙_}
 use mathlib.Core.List.{List}
 use Prim.Native.Nat.{ℕ}

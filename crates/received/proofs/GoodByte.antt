@@ -1,4 +1,4 @@
--- One lemma for each way out of `resumes`. Assumes nothing.
+-- A good byte: step 2, and what it means carried out from step 3 on. Assumes nothing.
 use mathlib.Core.Path.{_≡_, sym, ap, _∙_, subst, refl}
 use mathlib.Core.Bool.{Bool, true, false, not, _&&_, and-false, and-true}
 use Rattle.rules.specs.declared.Settings.{Settings}
@@ -12,7 +12,6 @@ use Rattle.received.specs.declared.meaning.Meaning.{Meaning}
 use Rattle.port.specs.declared.Port.{Port}
 use Rattle.port.specs.Layers.{state, Becomes, sizesOf, Ready}
 use lib.ListN.{length}
-use Rattle.rules.specs.declared.Group.{Group}
 use Rattle.rules.specs.declared.Outcome.{Outcome}
 use Rattle.input.specs.Contract as input
 use Rattle.output.specs.Contract as output
@@ -26,16 +25,6 @@ resumes-both x t a b = sym (ap (λ (y : Bool). t && not (y && x .ixany)) a ∙ a
 
 pub resumes-not : (x : Settings) (t : Bool) → (x .ixon && x .ixany) ≡ false → t ≡ stoppedThen x t
 resumes-not x t a = sym (ap (λ (y : Bool). t && not y) a ∙ and-true t)
-
----- In the arm of one meaning. Assumes nothing
-
-pub meant : {m k : Meaning} (p r : Port) (bs ms os bs′ ms′ os′ : List ℕ) (z : Sizes) → m ≡ k
-    → Becomes p bs ms os (steps.carry z (state p bs ms os) (meaningOf (p .settings) k) .0) r bs′ ms′ os′
-    → Becomes p bs ms os (steps.carry z (state p bs ms os) (meaningOf (p .settings) m) .0) r bs′ ms′ os′
-meant {m} {k} p r bs ms os bs′ ms′ os′ z e b =
-    subst (λ (y : Meaning). Becomes p bs ms os (steps.carry z (state p bs ms os) (meaningOf (p .settings) y) .0) r bs′ ms′ os′) (sym e) b
-
----- One lemma for each way out of the functions of this crate. Assumes nothing
 
 ---- The port at step 3
 
@@ -97,8 +86,3 @@ module _ (p : Port) (bs ms os : List ℕ) (g : Ready p bs ms os) where
         outcome =
             tells z (state (begun p) bs ms os) x (sym (ap (λ (y : Port). y .foreground) eq)) ∙ ap (λ (y : State × Outcome). y .1) there;
       }
-
----- What a meaning is carried out as
-
-pub told : {m k : Meaning} (f : Group) (r : Outcome) → m ≡ k → Tells k f r → Tells m f r
-told f r e t = subst (λ (y : Meaning). Tells y f r) (sym e) t

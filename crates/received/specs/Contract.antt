@@ -1,8 +1,8 @@
--- The port at step 3.
+-- What the functions of a port promise: the state of the rules after it, every byte of the slices, and what is reported.
 use mathlib.Core.Bool.{Bool, false, not, _&&_, true}
 use Rattle.rules.specs.declared.Settings.{Settings}
 use Rattle.port.specs.declared.Port.{Port}
-use Rattle.port.specs.Layers.{assembled, Becomes, state}
+use Rattle.port.specs.Layers.{assembled, Becomes, state, sizesOf}
 use Rattle.received.specs.flushing.Contract.{literalTo, stopTo}
 use Prim.Native.Nat.{ℕ}
 use mathlib.Core.Path.{_≡_}
@@ -24,11 +24,19 @@ stoppedThen x stopped = stopped && not (x .ixon && x .ixany)
 abbrev pub begun : Port → Port
 begun p = assembled p (literalTo false (p .input)) (stopTo (stoppedThen (p .settings) (p .output .stopped)) (p .output)) (p .waiting)
 
----- What the functions of an event promise: the state of the rules after it, every byte of the slices, and what is reported
+-- the port with its three slices becomes what the rules' step f makes of it
+abbrev pub Does : Port → List ℕ → List ℕ → List ℕ → (Sizes → State → State) → Port → List ℕ → List ℕ → List ℕ → Type 0
+Does p bs ms os f r bs′ ms′ os′ = Becomes p bs ms os (f (sizesOf p (length bs) (length os)) (state p bs ms os)) r bs′ ms′ os′
+
+---- What the functions of an event promise
 
 pub record Answers (p : Port) (bs ms os : List ℕ) (w : State × Outcome) (r : Reported) (bs′ ms′ os′ : List ℕ) : Type 0 where
   pub port : Becomes p bs ms os (w .0) (r .port) bs′ ms′ os′
   pub outcome : r .outcome ≡ w .1
+
+-- likewise, with what the rules' step f reports
+abbrev pub Reports : Port → List ℕ → List ℕ → List ℕ → (Sizes → State → State × Outcome) → Reported → List ℕ → List ℕ → List ℕ → Type 0
+Reports p bs ms os f r bs′ ms′ os′ = Answers p bs ms os (f (sizesOf p (length bs) (length os)) (state p bs ms os)) r bs′ ms′ os′
 
 -- what is reported of a meaning where f is the foreground group
 abbrev pub Tells : Meaning → Group → Outcome → Type 0

@@ -1,4 +1,4 @@
-// What a received event comes to, by the settings: document 01, 'Received events'.
+// Document 01, 'Received events': what an event comes to, by the settings.
 ghost use mathlib.Core.Path.{_≡_};
 ghost use Rattle.received.specs.arrival.Arrival.{brokenOf, parityOf, breakOf, hangupOf, arrivalOf};
 use input::Unit;
@@ -7,7 +7,7 @@ use rules::Settings;
 
 // nothing happens | a good byte | a unit that is stored without echo | both queues are flushed and INT is signalled | a tick |
 // a hangup
-pub enum Arrival {
+pub(crate) enum Arrival {
     Nothing,
     Good(u8),
     Silent(Unit),
@@ -66,7 +66,7 @@ fn hangs_up(x: Settings) -> Arrival
 }
 
 // 'A hung-up port ignores them, ticks too.'
-pub fn arrives(x: Settings, hung: bool, e: Event) -> Arrival
+pub(crate) fn arrives(x: Settings, hung: bool, e: Event) -> Arrival
     ensures { λ r. ⌜ r ≡ arrivalOf x hung e ⌝ }
 {
     if hung {

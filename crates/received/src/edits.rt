@@ -1,5 +1,3 @@
-// Document 01, 'Editing' and its echo, on a port: a run of units is erased or killed.
-// Document 01, 'Editing': REPRINT on a port.
 // Document 01, 'Editing', on a port: ERASE, WERASE, KILL, REPRINT, each by what it removes or shows again.
 ghost use mathlib.Core.Path.{_≡_};
 ghost use lib.ListN.{length};
@@ -7,9 +5,9 @@ ghost use lib.Dec.{leb};
 ghost use Rattle.rules.specs.Lent.{before, after};
 ghost use Rattle.rules.specs.Editing.{erase, wordErase, kill, reprint};
 ghost use Rattle.input.specs.Contract.{Within};
-ghost use Rattle.port.specs.Layers.{Ranged, Ready, Becomes, state, sizesOf, unitsOf};
-ghost use Rattle.received.specs.edits.Contract.{without, Edited};
-ghost use Rattle.rules.specs.Received.{editOn};
+ghost use Rattle.port.specs.Layers.{Ranged, Ready};
+ghost use Rattle.received.specs.Contract.{Does};
+ghost use Rattle.received.specs.edits.Contract.{without, edits, Edited};
 ghost use Rattle.received.specs.meaning.Meaning.{editOf};
 use super::meaning::Edit;
 use editing::Run;
@@ -33,13 +31,11 @@ fn without(p: Port, n: usize, run: Run) -> Port
 {
     let i = p.input;
     let input = i.cut(n, run.at);
-    let output = p.output;
-    let waiting = p.waiting;
-    port::assemble(p, input, output, waiting)
+    Port { input: input, ..p }
 }
 
 // ERASE and WERASE by the character b: the units of the run are gone, and what that shows is shown; on an empty line nothing
-pub fn erases(p: Port, n: usize, out: &mut [u8], b: u8, run: Run) -> Port
+fn erases(p: Port, n: usize, out: &mut [u8], b: u8, run: Run) -> Port
     requires { ⌜ Ranged p n (length (now out)) ⌝ }
     ensures { λ r. ⌜ Edited p n (before out) run b r (after out) erase × Edited p n (before out) run b r (after out) wordErase ⌝ }
 {
@@ -48,14 +44,14 @@ pub fn erases(p: Port, n: usize, out: &mut [u8], b: u8, run: Run) -> Port
         return p;
     }
     let x = p.settings;
-    let q = without(p, n, run);
-    let o = q.output;
+    let shorter = without(p, n, run);
+    let o = shorter.output;
     let output = echo::of_erased(o, x, out, b, run.units);
-    q.with_output(output)
+    shorter.with_output(output)
 }
 
 // KILL likewise
-pub fn kills(p: Port, n: usize, out: &mut [u8], b: u8, run: Run) -> Port
+fn kills(p: Port, n: usize, out: &mut [u8], b: u8, run: Run) -> Port
     requires { ⌜ Ranged p n (length (now out)) ⌝ }
     ensures { λ r. ⌜ Edited p n (before out) run b r (after out) kill ⌝ }
 {
@@ -64,16 +60,16 @@ pub fn kills(p: Port, n: usize, out: &mut [u8], b: u8, run: Run) -> Port
         return p;
     }
     let x = p.settings;
-    let q = without(p, n, run);
-    let o = q.output;
+    let shorter = without(p, n, run);
+    let o = shorter.output;
     let output = echo::of_killed(o, x, out, b, run.units);
-    q.with_output(output)
+    shorter.with_output(output)
 }
 
 // REPRINT: the line stays, and is shown again
-pub fn reprints(p: Port, bytes: &[u8], marks: &[u8], out: &mut [u8], b: u8) -> Port
+fn reprints(p: Port, bytes: &[u8], marks: &[u8], out: &mut [u8], b: u8) -> Port
     requires { ⌜ Ready p (now bytes) (now marks) (now out) ⌝ }
-    ensures { λ r. ⌜ Becomes p (before bytes) (before marks) (before out) (editOn (unitsOf p (before bytes) (before marks)) (sizesOf p (length (before bytes)) (length (before out))) (state p (before bytes) (before marks) (before out)) reprint b) r (before bytes) (before marks) (after out) ⌝ }
+    ensures { λ r. ⌜ Does p (before bytes) (before marks) (before out) (edits reprint b) r (before bytes) (before marks) (after out) ⌝ }
 {
     let x = p.settings;
     let i = p.input;
@@ -83,14 +79,14 @@ pub fn reprints(p: Port, bytes: &[u8], marks: &[u8], out: &mut [u8], b: u8) -> P
 }
 
 // 8. 'ICANON: ERASE, WERASE, KILL, REPRINT edit and are consumed.'
-pub fn edit(p: Port, bytes: &[u8], marks: &[u8], out: &mut [u8], e: Edit, b: u8) -> Port
+pub(crate) fn edit(p: Port, bytes: &[u8], marks: &[u8], out: &mut [u8], kind: Edit, b: u8) -> Port
     requires { ⌜ Ready p (now bytes) (now marks) (now out) ⌝ }
-    ensures { λ r. ⌜ Becomes p (before bytes) (before marks) (before out) (editOn (unitsOf p (before bytes) (before marks)) (sizesOf p (length (before bytes)) (length (before out))) (state p (before bytes) (before marks) (before out)) (editOf e) b) r (before bytes) (before marks) (after out) ⌝ }
+    ensures { λ r. ⌜ Does p (before bytes) (before marks) (before out) (edits (editOf kind) b) r (before bytes) (before marks) (after out) ⌝ }
 {
     let x = p.settings;
     let i = p.input;
     let n = bytes.len();
-    match e {
+    match kind {
         Edit::Erase => {
             let run = editing::last_unit(i, marks);
             erases(p, n, out, b, run)

@@ -1,6 +1,5 @@
-// Document 01, 'Received events', on a port: flushing its input; overflow; what was stored, and the timer of a waiting read.
-// Document 01, 'A good byte', steps 4 and 6: 'literal next' and stopped output, on a port.
-// Document 01, 'Received events': what a signal does, on a port whose numbers are in range.
+// Document 01, 'Received events', on a port: what is flushed, what does not fit, what a signal does, stopped output and 'literal next';
+// and the port with what was stored, with the timer of a waiting read.
 ghost use mathlib.Core.Path.{_≡_};
 ghost use lib.ListN.{length};
 ghost use Rattle.rules.specs.Lent.{before, after};
@@ -21,17 +20,20 @@ pub fn flush_input(p: Port, n: usize, out: &[u8]) -> Port
     requires { ⌜ Ranged p n (length (now out)) ⌝ }
     ensures { λ r. ⌜ Turns p n (before out) (λ z s. flushing.flushInput s) r (before out) ⌝ }
 {
-    let i = p.input;
     let x = p.settings;
+    let i = p.input;
+    let w = p.waiting;
     let input = i.flush(n);
-    let output = p.output;
-    let waiting = p.waiting;
-    let w = waiting::timer_flushed(waiting::between_bytes(x), waiting);
-    port::assemble(p, input, output, w)
+    let waiting = waiting::timer_flushed(waiting::between_bytes(x), w);
+    Port {
+        input: input,
+        waiting: waiting,
+        ..p
+    }
 }
 
 // 'What does not fit is dropped without echo: IMAXBEL queues byte 7 unprocessed, if there is room; else all input is flushed.'
-pub fn overflow(p: Port, n: usize, out: &mut [u8]) -> Port
+pub(crate) fn overflow(p: Port, n: usize, out: &mut [u8]) -> Port
     requires { ⌜ Ranged p n (length (now out)) ⌝ }
     ensures { λ r. ⌜ Turns p n (before out) fit.overflow r (after out) ⌝ }
 {
@@ -39,25 +41,28 @@ pub fn overflow(p: Port, n: usize, out: &mut [u8]) -> Port
     if x.imaxbel {
         let o = p.output;
         let output = output::bell(o, x, out);
-        let input = p.input;
-        let waiting = p.waiting;
-        return port::assemble(p, input, output, waiting);
+        return p.with_output(output);
     }
     flush_input(p, n, out)
 }
 
 // the port with what was stored; a byte stored restarts or starts the timer of a waiting read
-pub fn stored(p: Port, input: Input, output: Output) -> Port
+pub(crate) fn stored(p: Port, input: Input, output: Output) -> Port
     ensures { λ r. ⌜ r ≡ assembled p input output (fit.timerStored (flushing.betweenBytes (p .settings)) (p .settings) (p .waiting)) ⌝ }
 {
     let x = p.settings;
-    let waiting = p.waiting;
-    let w = waiting::timer_stored(waiting::between_bytes(x), x, waiting);
-    port::assemble(p, input, output, w)
+    let w = p.waiting;
+    let waiting = waiting::timer_stored(waiting::between_bytes(x), x, w);
+    Port {
+        input: input,
+        output: output,
+        waiting: waiting,
+        ..p
+    }
 }
 
 // 6. 'STOP stops output, START resumes it.'
-pub fn stopped_to(p: Port, stopped: bool) -> Port
+pub(crate) fn stopped_to(p: Port, stopped: bool) -> Port
     ensures { λ r. ⌜ r ≡ withOutput p (stopTo stopped (p .output)) ⌝ }
 {
     let o = p.output;
@@ -66,14 +71,12 @@ pub fn stopped_to(p: Port, stopped: bool) -> Port
 }
 
 // 4. 'set "literal next"'
-pub fn sets_literal(p: Port) -> Port
+pub(crate) fn sets_literal(p: Port) -> Port
     ensures { λ r. ⌜ r ≡ assembled p (literalTo true (p .input)) (p .output) (p .waiting) ⌝ }
 {
     let i = p.input;
     let input = i.with_literal(true);
-    let output = p.output;
-    let waiting = p.waiting;
-    port::assemble(p, input, output, waiting)
+    Port { input: input, ..p }
 }
 
 // 'Flushing input drops .. . Flushing output empties its queue; column and "stopped" stay.'
@@ -81,8 +84,8 @@ pub fn flush_both(p: Port, n: usize, out: &[u8]) -> Port
     requires { ⌜ Ranged p n (length (now out)) ⌝ }
     ensures { λ r. ⌜ Turns p n (before out) (λ z s. flushing.flushBoth s) r (before out) ⌝ }
 {
-    let q = flush_input(p, n, out);
-    q.flush_output(out.len())
+    let flushed = flush_input(p, n, out);
+    flushed.flush_output(out.len())
 }
 
 // 'Both queues are flushed unless NOFLSH'
@@ -97,13 +100,13 @@ fn flush_unless(p: Port, n: usize, out: &[u8], kept: bool) -> Port
 }
 
 // 5. 'Both queues are flushed unless NOFLSH; then the byte is echoed.'
-pub fn signals(p: Port, n: usize, out: &mut [u8], b: u8) -> Port
+pub(crate) fn signals(p: Port, n: usize, out: &mut [u8], b: u8) -> Port
     requires { ⌜ Ranged p n (length (now out)) ⌝ }
     ensures { λ r. ⌜ Turns p n (before out) (λ z s. echo.shown z (steps.flushedUnless (s .settings .noflsh) s) (echo.echoOf (s .settings) b)) r (after out) ⌝ }
 {
     let x = p.settings;
-    let q = flush_unless(p, n, out, x.noflsh);
-    let o = q.output;
+    let flushed = flush_unless(p, n, out, x.noflsh);
+    let o = flushed.output;
     let output = echo::of_byte(o, x, out, b);
-    q.with_output(output)
+    flushed.with_output(output)
 }

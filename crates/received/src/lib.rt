@@ -1,19 +1,17 @@
-// Document 01, 'A good byte', step 2: output resumes; 'literal next' is cleared.
-// Document 01, 'A good byte': what the byte means is carried out on a port whose numbers are in range.
-// Document 01, 'A good byte, in this order': steps 1 to 9, and what is reported.
-// Document 01, 'Received events', on a port whose numbers are in range: what an event comes to is carried out.
-pub mod arrival;
-pub mod edits;
+// Document 01, 'Received events', on a port whose numbers are in range: what an event comes to is carried out, a good byte by steps 1 to 9,
+// and the signal that is reported.
+mod arrival;
+mod edits;
 pub mod flushing;
-pub mod meaning;
-pub mod storing;
+mod meaning;
+mod storing;
 
 ghost use mathlib.Core.Path.{_≡_};
 ghost use Rattle.rules.specs.Lent.{before, after};
-ghost use Rattle.received.specs.Contract.{stoppedThen, begun, Answers, Tells, Announces, hungUp};
+ghost use Rattle.received.specs.Contract.{stoppedThen, begun, Does, Reports, Tells, Announces, hungUp};
 ghost use lib.ListN.{length};
-ghost use Rattle.received.specs.meaning.Meaning.{meaningOf};
-ghost use Rattle.port.specs.Layers.{Becomes, Ready, state, sizesOf, Ranged, assembled};
+ghost use Rattle.received.specs.meaning.Meaning.{carryOf};
+ghost use Rattle.port.specs.Layers.{Ready, Ranged, assembled};
 ghost use Rattle.rules.specs.Received as steps;
 ghost use Rattle.rules.specs.Flushing as flushing;
 use arrival::Arrival;
@@ -24,6 +22,7 @@ use rules::Group;
 use rules::Outcome;
 use rules::Settings;
 use rules::Signal;
+use storing::Stored;
 
 // 2. 'IXON and IXANY: output resumes.'
 fn resumes(x: Settings, stopped: bool) -> bool
@@ -39,7 +38,7 @@ fn resumes(x: Settings, stopped: bool) -> bool
 }
 
 // step 2; and 'literal next' is cleared by every good byte that does not set it
-pub fn begins(p: Port) -> Port
+fn begins(p: Port) -> Port
     ensures { λ r. ⌜ r ≡ begun p ⌝ }
 {
     let x = p.settings;
@@ -47,26 +46,29 @@ pub fn begins(p: Port) -> Port
     let o = p.output;
     let input = i.with_literal(false);
     let output = o.stop(resumes(x, o.stopped));
-    let waiting = p.waiting;
-    port::assemble(p, input, output, waiting)
+    Port {
+        input: input,
+        output: output,
+        ..p
+    }
 }
 
 // what a good byte means is carried out
-pub fn carries(p: Port, bytes: &mut [u8], marks: &mut [u8], out: &mut [u8], m: Meaning) -> Port
+fn carries(p: Port, bytes: &mut [u8], marks: &mut [u8], out: &mut [u8], meaning: Meaning) -> Port
     requires { ⌜ Ready p (now bytes) (now marks) (now out) ⌝ }
-    ensures { λ r. ⌜ Becomes p (before bytes) (before marks) (before out) (steps.carry (sizesOf p (length (before bytes)) (length (before out))) (state p (before bytes) (before marks) (before out)) (meaningOf (p .settings) m) .0) r (after bytes) (after marks) (after out) ⌝ }
+    ensures { λ r. ⌜ Does p (before bytes) (before marks) (before out) (carryOf meaning) r (after bytes) (after marks) (after out) ⌝ }
 {
     let n = bytes.len();
-    match m {
+    match meaning {
         Meaning::LiteralNext => flushing::sets_literal(p),
         Meaning::Signals(_, b) => flushing::signals(p, n, out, b),
         Meaning::Stops => flushing::stopped_to(p, true),
         Meaning::Starts => flushing::stopped_to(p, false),
         Meaning::Drops => p,
-        Meaning::Edits(e, b) => edits::edit(p, bytes, marks, out, e, b),
-        Meaning::Ends(b) => storing::ends(p, bytes, marks, out, b),
-        Meaning::Marks => storing::marks_end(p, bytes, marks, out),
-        Meaning::Stores(b) => storing::stores(p, bytes, marks, out, b),
+        Meaning::Edits(kind, b) => edits::edit(p, bytes, marks, out, kind, b),
+        Meaning::Ends(b) => storing::stores(p, bytes, marks, out, Stored::Delimiter(b)),
+        Meaning::Marks => storing::stores(p, bytes, marks, out, Stored::Mark),
+        Meaning::Stores(b) => storing::stores(p, bytes, marks, out, Stored::Byte(b)),
     }
 }
 
@@ -76,12 +78,13 @@ pub struct Reported {
     pub outcome: Outcome,
 }
 
-fn tells(m: Meaning, f: Group) -> Outcome
-    ensures { λ r. ⌜ Tells m f r ⌝ }
+// what is reported of a meaning
+fn tells(meaning: Meaning, foreground: Group) -> Outcome
+    ensures { λ r. ⌜ Tells meaning foreground r ⌝ }
 {
-    match m {
+    match meaning {
         Meaning::LiteralNext => Outcome::Ok,
-        Meaning::Signals(g, _) => jobs::reported(g, f),
+        Meaning::Signals(signal, _) => jobs::reported(signal, foreground),
         Meaning::Stops => Outcome::Ok,
         Meaning::Starts => Outcome::Ok,
         Meaning::Drops => Outcome::Ok,
@@ -93,23 +96,24 @@ fn tells(m: Meaning, f: Group) -> Outcome
 }
 
 // a good byte, steps 1 to 9
-pub fn good(p: Port, bytes: &mut [u8], marks: &mut [u8], out: &mut [u8], b: u8) -> Reported
+fn good(p: Port, bytes: &mut [u8], marks: &mut [u8], out: &mut [u8], b: u8) -> Reported
     requires { ⌜ Ready p (now bytes) (now marks) (now out) ⌝ }
-    ensures { λ r. ⌜ Answers p (before bytes) (before marks) (before out) (steps.good (sizesOf p (length (before bytes)) (length (before out))) (state p (before bytes) (before marks) (before out)) b) r (after bytes) (after marks) (after out) ⌝ }
+    ensures { λ r. ⌜ Reports p (before bytes) (before marks) (before out) (λ z s. steps.good z s b) r (after bytes) (after marks) (after out) ⌝ }
 {
     let x = p.settings;
     let i = p.input;
-    let m = meaning::means(x, i.literal, meaning::stripped(x, b));
-    let q = begins(p);
-    let f = q.foreground;
-    let outcome = tells(m, f);
-    let port = carries(q, bytes, marks, out, m);
+    let meaning = meaning::means(x, i.literal, meaning::stripped(x, b));
+    let begun = begins(p);
+    let foreground = begun.foreground;
+    let outcome = tells(meaning, foreground);
+    let port = carries(begun, bytes, marks, out, meaning);
     Reported {
         port: port,
         outcome: outcome,
     }
 }
 
+// no signal is reported
 fn quiet(p: Port) -> Reported
     ensures { λ r. ⌜ r ≡ record { port = p; outcome = Outcome.Ok } ⌝ }
 {
@@ -119,10 +123,11 @@ fn quiet(p: Port) -> Reported
     }
 }
 
-fn reports(p: Port, g: Signal, f: Group) -> Reported
-    ensures { λ r. ⌜ r ≡ record { port = p; outcome = steps.reported g f } ⌝ }
+// a signal goes to the foreground group, HUP to the controlling process
+fn reports(p: Port, signal: Signal, foreground: Group) -> Reported
+    ensures { λ r. ⌜ r ≡ record { port = p; outcome = steps.reported signal foreground } ⌝ }
 {
-    let outcome = jobs::reported(g, f);
+    let outcome = jobs::reported(signal, foreground);
     Reported {
         port: p,
         outcome: outcome,
@@ -134,39 +139,28 @@ fn interrupts(p: Port, n: usize, out: &[u8]) -> Reported
     requires { ⌜ Ranged p n (length (now out)) ⌝ }
     ensures { λ r. ⌜ Announces p n (before out) (λ s. (flushing.flushBoth s, steps.reported Signal.Int (s .foreground))) r ⌝ }
 {
-    let f = p.foreground;
-    let q = flushing::flush_both(p, n, out);
-    reports(q, Signal::Int, f)
+    let foreground = p.foreground;
+    let flushed = flushing::flush_both(p, n, out);
+    reports(flushed, Signal::Int, foreground)
 }
 
 // 'each tenth of a second lowers it by one'
 fn ticks(p: Port) -> Port
     ensures { λ r. ⌜ r ≡ assembled p (p .input) (p .output) (steps.lowered (p .waiting)) ⌝ }
 {
-    let input = p.input;
-    let output = p.output;
-    let old = p.waiting;
-    let w = waiting::lowered(old);
-    port::assemble(p, input, output, w)
+    let w = p.waiting;
+    let waiting = waiting::lowered(w);
+    Port {
+        waiting: waiting,
+        ..p
+    }
 }
 
+// 'the port is hung up'
 fn hung_up(p: Port) -> Port
     ensures { λ r. ⌜ r ≡ hungUp p ⌝ }
 {
-    let settings = p.settings;
-    let input = p.input;
-    let output = p.output;
-    let foreground = p.foreground;
-    let waiting = p.waiting;
-    Port {
-        settings: settings,
-        line: p.line,
-        input: input,
-        output: output,
-        foreground: foreground,
-        hung: true,
-        waiting: waiting,
-    }
+    Port { hung: true, ..p }
 }
 
 // 'both queues are flushed, the port is hung up, HUP goes to the controlling process'
@@ -174,21 +168,21 @@ fn hangs_up(p: Port, n: usize, out: &[u8]) -> Reported
     requires { ⌜ Ranged p n (length (now out)) ⌝ }
     ensures { λ r. ⌜ Announces p n (before out) (λ s. (steps.hungUp (flushing.flushBoth s), steps.reported Signal.Hup (s .foreground))) r ⌝ }
 {
-    let f = p.foreground;
-    let q = flushing::flush_both(p, n, out);
-    reports(hung_up(q), Signal::Hup, f)
+    let foreground = p.foreground;
+    let flushed = flushing::flush_both(p, n, out);
+    reports(hung_up(flushed), Signal::Hup, foreground)
 }
 
 // what an event comes to is carried out
 pub fn received(p: Port, bytes: &mut [u8], marks: &mut [u8], out: &mut [u8], e: Event) -> Reported
     requires { ⌜ Ready p (now bytes) (now marks) (now out) ⌝ }
-    ensures { λ r. ⌜ Answers p (before bytes) (before marks) (before out) (steps.received (sizesOf p (length (before bytes)) (length (before out))) (state p (before bytes) (before marks) (before out)) e) r (after bytes) (after marks) (after out) ⌝ }
+    ensures { λ r. ⌜ Reports p (before bytes) (before marks) (before out) (λ z s. steps.received z s e) r (after bytes) (after marks) (after out) ⌝ }
 {
-    let a = arrival::arrives(p.settings, p.hung, e);
-    match a {
+    let arrival = arrival::arrives(p.settings, p.hung, e);
+    match arrival {
         Arrival::Nothing => quiet(p),
         Arrival::Good(b) => good(p, bytes, marks, out, b),
-        Arrival::Silent(u) => quiet(storing::silently(p, bytes, marks, out, u)),
+        Arrival::Silent(unit) => quiet(storing::stores(p, bytes, marks, out, Stored::Silent(unit))),
         Arrival::Interrupt => interrupts(p, bytes.len(), out),
         Arrival::Tick => quiet(ticks(p)),
         Arrival::Hangup => hangs_up(p, bytes.len(), out),

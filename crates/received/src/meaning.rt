@@ -1,5 +1,4 @@
-// Document 01, 'A good byte': what the byte becomes, steps 1 and 7.
-// What a good byte means: steps 3 to 9 of document 01, 'Received events'.
+// Document 01, 'A good byte': what the byte becomes, steps 1 and 7, and what it means, steps 3 to 9.
 ghost use mathlib.Core.Path.{_≡_};
 ghost use mathlib.Core.Bool.{_&&_, _||_};
 ghost use lib.Dec.{eqb};
@@ -9,8 +8,12 @@ ghost use Rattle.rules.specs.Settings as rule;
 use rules::Settings;
 use rules::Signal;
 
+const NEWLINE: u8 = 10;
+
+const RETURN: u8 = 13;
+
 // 1. 'ISTRIP keeps the low seven bits.'
-pub fn stripped(x: Settings, b: u8) -> u8
+pub(crate) fn stripped(x: Settings, b: u8) -> u8
     ensures { λ r. ⌜ r ≡ steps.step1 x b ⌝ }
 {
     if x.istrip {
@@ -20,19 +23,20 @@ pub fn stripped(x: Settings, b: u8) -> u8
 }
 
 // 7. '13: IGNCR drops, else ICRNL makes it 10. A received 10 becomes 13 under INLCR. One mapping only.'
-pub fn mapped(x: Settings, b: u8) -> u8
+fn mapped(x: Settings, b: u8) -> u8
     ensures { λ r. ⌜ r ≡ steps.mapped x b ⌝ }
 {
-    if b == 13 && x.icrnl {
-        return 10;
+    if b == RETURN && x.icrnl {
+        return NEWLINE;
     }
-    if b == 10 && x.inlcr {
-        return 13;
+    if b == NEWLINE && x.inlcr {
+        return RETURN;
     }
     b
 }
 
-pub enum Edit {
+// 8. 'ERASE, WERASE, KILL, REPRINT'
+pub(crate) enum Edit {
     Erase,
     WordErase,
     Kill,
@@ -40,7 +44,7 @@ pub enum Edit {
 }
 
 // A byte beside a meaning is the one that it shows, that edits, or that is stored.
-pub enum Meaning {
+pub(crate) enum Meaning {
     LiteralNext,
     Signals(Signal, u8),
     Stops,
@@ -52,11 +56,11 @@ pub enum Meaning {
     Stores(u8),
 }
 
-// b is the special character c, under a flag
-fn special(flag: bool, b: u8, c: u8) -> bool
-    ensures { λ r. ⌜ r ≡ (flag && rule.is b c) ⌝ }
+// b is this special character, under a flag
+fn special(flag: bool, b: u8, character: u8) -> bool
+    ensures { λ r. ⌜ r ≡ (flag && rule.is b character) ⌝ }
 {
-    flag && settings::is(b, c)
+    flag && settings::is(b, character)
 }
 
 // 'Under ICANON a non-literal 10, EOL or EOL2 .. ends the line.'
@@ -66,7 +70,7 @@ fn ends_line(x: Settings, b: u8) -> bool
     if !x.icanon {
         return false;
     }
-    if b == 10 {
+    if b == NEWLINE {
         return true;
     }
     settings::is(b, x.eol) || settings::is(b, x.eol2)
@@ -104,10 +108,11 @@ fn step8(x: Settings, b: u8) -> Meaning
     step9(x, b)
 }
 
+// 7. '13: IGNCR drops', else it is mapped
 fn step7(x: Settings, b: u8) -> Meaning
     ensures { λ r. ⌜ meaningOf x r ≡ steps.step7 x b ⌝ }
 {
-    if b == 13 && x.igncr {
+    if b == RETURN && x.igncr {
         return Meaning::Drops;
     }
     step8(x, mapped(x, b))
@@ -145,7 +150,7 @@ fn step5(x: Settings, b: u8) -> Meaning
 // What a good byte means after step 1.
 // 3. '"Literal next", if set, is cleared; the byte goes to step 9 as literal.'
 // 4. 'IEXTEN and LNEXT: set "literal next". No echo.'
-pub fn means(x: Settings, literal: bool, b: u8) -> Meaning
+pub(crate) fn means(x: Settings, literal: bool, b: u8) -> Meaning
     ensures { λ r. ⌜ meaningOf x r ≡ steps.step3 x literal b ⌝ }
 {
     if literal {

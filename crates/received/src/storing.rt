@@ -1,85 +1,95 @@
-// Document 01, 'Received events': a unit is stored, if it fits, with its echo.
-// Document 01, 'Received events': a unit is stored, if it fits, without echo.
-// Document 01, 'Received events': a delimiter is stored, if it fits, with its echo.
-// Document 01, 'Received events': an end-of-file mark is stored, if it fits.
+// Document 01, 'Received events': what an event stores, if it fits, and what that shows.
+ghost use mathlib.Core.Path.{_≡_};
 ghost use lib.ListN.{length};
-ghost use mathlib.Core.Bool.{false};
 ghost use Rattle.rules.specs.Lent.{before, after};
-ghost use Rattle.rules.specs.Sizes.{unit, delimiter, endOfFile};
-ghost use Rattle.port.specs.Layers.{Becomes, Ready, state, sizesOf};
-ghost use mathlib.Core.List.{[]};
-ghost use Rattle.input.specs.Contract.{unitOf};
-ghost use Rattle.rules.specs.Fit as fit;
-ghost use Rattle.rules.specs.Echo as echo;
-ghost use Rattle.rules.specs.Received as steps;
+ghost use Rattle.input.specs.Contract.{Within, Room, InputBecomes, get};
+ghost use Rattle.output.specs.Contract.{Echoes, inRange};
+ghost use Rattle.port.specs.Layers.{Ready};
+ghost use Rattle.received.specs.Contract.{Does};
+ghost use Rattle.received.specs.storing.Contract.{Fits, placesOf, keptOf, echoOf};
+ghost use Rattle.received.specs.storing.Contract as rule;
 use super::flushing;
+use input::Input;
 use input::Unit;
 use input::units;
+use output::Output;
 use port::Port;
+use rules::Settings;
 
-// 9. 'Store', and the echo of the byte
-pub fn stores(p: Port, bytes: &mut [u8], marks: &mut [u8], out: &mut [u8], b: u8) -> Port
-    requires { ⌜ Ready p (now bytes) (now marks) (now out) ⌝ }
-    ensures { λ r. ⌜ Becomes p (before bytes) (before marks) (before out) (fit.storesUnit (sizesOf p (length (before bytes)) (length (before out))) (state p (before bytes) (before marks) (before out)) (unit false b (steps.doubled (p .settings) b)) (echo.storedEcho (p .settings) b)) r (after bytes) (after marks) (after out) ⌝ }
+// What an event stores: a good byte | the unit of a break or a broken byte, 'literal', with 'no echo' |
+// a delimiter, which 'is stored and ends the line' | 'a mark that ends it, without echo'
+pub(crate) enum Stored {
+    Byte(u8),
+    Silent(Unit),
+    Delimiter(u8),
+    Mark,
+}
+
+// it fits in n places
+fn fits(p: Port, n: usize, what: Stored) -> bool
+    requires { ⌜ Within (p .input) n ⌝ }
+    ensures { λ r. ⌜ Fits p n what r ⌝ }
 {
     let x = p.settings;
     let i = p.input;
-    let n = bytes.len();
-    let u = units::unit_of(x, b);
-    let k = units::size(u);
-    if units::unit_fits(i, n, p.line, x.icanon, k) {
-        let input = units::store(i, bytes, marks, x.icanon, u);
-        let o = p.output;
-        let output = echo::of_stored(o, x, out, b);
-        return flushing::stored(p, input, output);
+    match what {
+        Stored::Byte(b) => {
+            let unit = units::unit_of(x, b);
+            units::unit_fits(i, n, p.line, x.icanon, units::size(unit))
+        }
+        Stored::Silent(silent) => units::unit_fits(i, n, p.line, x.icanon, units::size(silent)),
+        Stored::Delimiter(_) => units::end_fits(i, n),
+        Stored::Mark => units::end_fits(i, n),
     }
-    flushing::overflow(p, n, out)
 }
 
-// A unit stored by a break, a parity or a framing error: 'literal', 'no echo'.
-pub fn silently(p: Port, bytes: &mut [u8], marks: &mut [u8], out: &mut [u8], u: Unit) -> Port
+// the input with it
+fn kept(i: Input, x: Settings, bytes: &mut [u8], marks: &mut [u8], what: Stored) -> Input
+    requires { ⌜ Room i (now bytes) (now marks) (length (placesOf x what)) ⌝ }
+    ensures { λ r. ⌜ InputBecomes i (before bytes) (before marks) (keptOf x (get i (before bytes) (before marks)) what) r (after bytes) (after marks) ⌝ }
+{
+    match what {
+        Stored::Byte(b) => {
+            let unit = units::unit_of(x, b);
+            units::store(i, bytes, marks, x.icanon, unit)
+        }
+        Stored::Silent(silent) => units::store(i, bytes, marks, x.icanon, silent),
+        Stored::Delimiter(b) => units::end(i, bytes, marks, b),
+        Stored::Mark => units::end_of_file(i, bytes, marks),
+    }
+}
+
+// the output with what it shows
+fn shown(o: Output, x: Settings, out: &mut [u8], what: Stored) -> Output
+    requires { ⌜ o ≡ inRange (length (now out)) o ⌝ }
+    ensures { λ r. ⌜ Echoes x o (before out) (echoOf x what) r (after out) ⌝ }
+{
+    match what {
+        Stored::Byte(b) => echo::of_stored(o, x, out, b),
+        Stored::Silent(_) => o,
+        Stored::Delimiter(b) => echo::of_stored(o, x, out, b),
+        Stored::Mark => o,
+    }
+}
+
+// 9. 'Store', and what that shows; 'what does not fit is dropped without echo'
+pub(crate) fn stores(
+    p: Port,
+    bytes: &mut [u8],
+    marks: &mut [u8],
+    out: &mut [u8],
+    what: Stored,
+) -> Port
     requires { ⌜ Ready p (now bytes) (now marks) (now out) ⌝ }
-    ensures { λ r. ⌜ Becomes p (before bytes) (before marks) (before out) (fit.storesUnit (sizesOf p (length (before bytes)) (length (before out))) (state p (before bytes) (before marks) (before out)) (unitOf u) []) r (after bytes) (after marks) (after out) ⌝ }
+    ensures { λ r. ⌜ Does p (before bytes) (before marks) (before out) (rule.stores what) r (after bytes) (after marks) (after out) ⌝ }
 {
     let x = p.settings;
     let i = p.input;
+    let o = p.output;
     let n = bytes.len();
-    let k = units::size(u);
-    if units::unit_fits(i, n, p.line, x.icanon, k) {
-        let input = units::store(i, bytes, marks, x.icanon, u);
-        let output = p.output;
-        return flushing::stored(p, input, output);
-    }
-    flushing::overflow(p, n, out)
-}
-
-// 'a non-literal 10, EOL or EOL2 is stored and ends the line'
-pub fn ends(p: Port, bytes: &mut [u8], marks: &mut [u8], out: &mut [u8], b: u8) -> Port
-    requires { ⌜ Ready p (now bytes) (now marks) (now out) ⌝ }
-    ensures { λ r. ⌜ Becomes p (before bytes) (before marks) (before out) (fit.storesEnd (sizesOf p (length (before bytes)) (length (before out))) (state p (before bytes) (before marks) (before out)) (delimiter b) (echo.storedEcho (p .settings) b)) r (after bytes) (after marks) (after out) ⌝ }
-{
-    let x = p.settings;
-    let i = p.input;
-    let n = bytes.len();
-    if units::end_fits(i, n) {
-        let input = units::end(i, bytes, marks, b);
-        let o = p.output;
-        let output = echo::of_stored(o, x, out, b);
-        return flushing::stored(p, input, output);
-    }
-    flushing::overflow(p, n, out)
-}
-
-// 'a non-literal EOF stores a mark that ends it, without echo'
-pub fn marks_end(p: Port, bytes: &mut [u8], marks: &mut [u8], out: &mut [u8]) -> Port
-    requires { ⌜ Ready p (now bytes) (now marks) (now out) ⌝ }
-    ensures { λ r. ⌜ Becomes p (before bytes) (before marks) (before out) (fit.storesEnd (sizesOf p (length (before bytes)) (length (before out))) (state p (before bytes) (before marks) (before out)) endOfFile []) r (after bytes) (after marks) (after out) ⌝ }
-{
-    let i = p.input;
-    let n = bytes.len();
-    if units::end_fits(i, n) {
-        let input = units::end_of_file(i, bytes, marks);
-        let output = p.output;
+    if fits(p, n, what) {
+        let input = kept(i, x, bytes, marks, what);
+        let output = shown(o, x, out, what);
         return flushing::stored(p, input, output);
     }
     flushing::overflow(p, n, out)

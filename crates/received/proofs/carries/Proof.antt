@@ -1,10 +1,7 @@
 -- `received::carries` meets its contract. Assumes nothing.
 use mathlib.Core.Path.{refl, sym}
 use mathlib.Core.Bool.{true, false}
-use lib.ListN.{length}
-use Rattle.port.specs.Layers.{sizesOf}
 use Rattle.port.proofs.Layers.{stays}
-use Rattle.received.proofs.GoodByte.{meant}
 use Rattle.received.proofs.flushing.Laws.{literal-of, stopped-of}
 use borrow.Author.Needs.{needs}
 use Rattle.received.proofs.carries.Statement.{statement}
@@ -16,8 +13,8 @@ enum-told c = search needs
 sets-literal-requires : tie.Need-sets-literal-requires
 sets-literal-requires c κs = search needs
 
-enum-known-m : tie.Need-enum-known-m
-enum-known-m c = search needs
+enum-known-meaning : tie.Need-enum-known-meaning
+enum-known-meaning c = search needs
 
 signals-requires : tie.Need-signals-requires
 signals-requires c κs = search needs
@@ -37,86 +34,65 @@ stopped-to-requires-2 c κs = search needs
 enum-told-4 : tie.Need-enum-told-4
 enum-told-4 c = search needs
 
-enum-known-m-2 : tie.Need-enum-known-m-2
-enum-known-m-2 c = search needs
+enum-known-meaning-2 : tie.Need-enum-known-meaning-2
+enum-known-meaning-2 c = search needs
 
 edit-requires : tie.Need-edit-requires
 edit-requires c κs = search needs
 
-enum-known-m-3 : tie.Need-enum-known-m-3
-enum-known-m-3 c = search needs
-
-ends-requires : tie.Need-ends-requires
-ends-requires c κs = search needs
-
-enum-told-5 : tie.Need-enum-told-5
-enum-told-5 c = search needs
-
-marks-end-requires : tie.Need-marks-end-requires
-marks-end-requires c κs = search needs
-
-enum-known-m-4 : tie.Need-enum-known-m-4
-enum-known-m-4 c = search needs
+enum-known-meaning-3 : tie.Need-enum-known-meaning-3
+enum-known-meaning-3 c = search needs
 
 stores-requires : tie.Need-stores-requires
 stores-requires c κs = search needs
 
+enum-told-5 : tie.Need-enum-told-5
+enum-told-5 c = search needs
+
+stores-requires-2 : tie.Need-stores-requires-2
+stores-requires-2 c κs = search needs
+
+enum-known-meaning-4 : tie.Need-enum-known-meaning-4
+enum-known-meaning-4 c = search needs
+
+stores-requires-3 : tie.Need-stores-requires-3
+stores-requires-3 c κs = search needs
+
 returns : tie.Need-returns
 returns c =
     let start = c .before .before .before .before .before .before in
-    let p = (start .args .p) in
-    let bs = (start .args .bytes .now) in
-    let ms = (start .args .marks .now) in
-    let os = (start .args .out .now) in
-    let z = sizesOf p (length bs) (length os) in
-    meant p (c .sets-literal .result) bs ms os bs ms os z (c .before .enum-told .given .1)
-    (literal-of p bs ms os (start .pre) (c .sets-literal .result) true (c .sets-literal .ensures))
+    rw (c .before .enum-told .given .1)
+    (literal-of (start .args .p) (start .args .bytes .now) (start .args .marks .now) (start .args .out .now) (start .pre) (c .sets-literal .result) true
+    (c .sets-literal .ensures))
 
 same-length : tie.Need-same-length
 same-length c = search needs
 
 returns-2 : tie.Need-returns-2
 returns-2 c =
-    let at-signals = c .before .before .signals in
-    let at-m = c .before .before .before .before .before .m in
     let start = c .before .before .before .before .before .before .before .before .before .before in
-    let p = (start .args .p) in
-    let bs = (start .args .bytes .now) in
-    let ms = (start .args .marks .now) in
-    let os = (start .args .out .now) in
-    let z = sizesOf p (length bs) (length os) in
-    meant p (at-signals .result) bs ms os bs ms (at-signals .last .1 .1 .0) z (at-m .given .1) ((at-signals .ensures) bs ms refl (sym ((start .pre) .same)))
+    let at-signals = c .before .before .signals in
+    let at-meaning = c .before .before .before .before .before .meaning in
+    rw (at-meaning .given .1) ((at-signals .ensures) (start .args .bytes .now) (start .args .marks .now) refl (sym (start .pre .same)))
 
 returns-3 : tie.Need-returns-3
 returns-3 c =
     let start = c .before .before .before .before .before .before in
-    let p = (start .args .p) in
-    let bs = (start .args .bytes .now) in
-    let ms = (start .args .marks .now) in
-    let os = (start .args .out .now) in
-    let z = sizesOf p (length bs) (length os) in
-    meant p (c .stopped-to .result) bs ms os bs ms os z (c .before .enum-told2 .given .1)
-    (stopped-of p bs ms os (start .pre) (c .stopped-to .result) true (c .stopped-to .ensures))
+    rw (c .before .enum-told2 .given .1)
+    (stopped-of (start .args .p) (start .args .bytes .now) (start .args .marks .now) (start .args .out .now) (start .pre) (c .stopped-to .result) true
+    (c .stopped-to .ensures))
 
 returns-4 : tie.Need-returns-4
 returns-4 c =
     let start = c .before .before .before .before .before .before in
-    let p = (start .args .p) in
-    let bs = (start .args .bytes .now) in
-    let ms = (start .args .marks .now) in
-    let os = (start .args .out .now) in
-    let z = sizesOf p (length bs) (length os) in
-    meant p (c .stopped-to2 .result) bs ms os bs ms os z (c .before .enum-told3 .given .1)
-    (stopped-of p bs ms os (start .pre) (c .stopped-to2 .result) false (c .stopped-to2 .ensures))
+    rw (c .before .enum-told3 .given .1)
+    (stopped-of (start .args .p) (start .args .bytes .now) (start .args .marks .now) (start .args .out .now) (start .pre) (c .stopped-to2 .result) false
+    (c .stopped-to2 .ensures))
 
 returns-5 : tie.Need-returns-5
 returns-5 c =
-    let p = (c .before .before .before .before .before .args .p) in
-    let bs = (c .before .before .before .before .before .args .bytes .now) in
-    let ms = (c .before .before .before .before .before .args .marks .now) in
-    let os = (c .before .before .before .before .before .args .out .now) in
-    let z = sizesOf p (length bs) (length os) in
-    meant p p bs ms os bs ms os z (c .enum-told4 .given .1) (stays p bs ms os (c .before .before .before .before .before .pre))
+    let start = c .before .before .before .before .before in
+    rw (c .enum-told4 .given .1) (stays (start .args .p) (start .args .bytes .now) (start .args .marks .now) (start .args .out .now) (start .pre))
 
 same-length-2 : tie.Need-same-length-2
 same-length-2 c = search needs
@@ -129,15 +105,7 @@ same-length-4 c = search needs
 
 returns-6 : tie.Need-returns-6
 returns-6 c =
-    let at-edit = c .before .before .edit in
-    let at-m2 = c .before .before .before .before .before .before .before .m2 in
-    let start = c .before .before .before .before .before .before .before .before .before .before .before .before in
-    let p = (start .args .p) in
-    let bs = (start .args .bytes .now) in
-    let ms = (start .args .marks .now) in
-    let os = (start .args .out .now) in
-    let z = sizesOf p (length bs) (length os) in
-    meant p (at-edit .result) bs ms os bs ms (at-edit .last .1 .1 .1 .0) z (at-m2 .given .1) (at-edit .ensures)
+    rw (c .before .before .before .before .before .before .before .meaning2 .given .1) (c .before .before .edit .ensures)
 
 same-length-5 : tie.Need-same-length-5
 same-length-5 c = search needs
@@ -150,16 +118,9 @@ same-length-7 c = search needs
 
 returns-7 : tie.Need-returns-7
 returns-7 c =
-    let back = c .before .before .before .before .before .before .before .before .before .before .before .before in
-    let at-ends = c .before .before .before .before .before .before .ends in
-    let at-m3 = c .before .before .before .before .before .before .before .before .before .before .before .m3 in
-    let start = back .before .before .before .before in
-    let p = (start .args .p) in
-    let bs = (start .args .bytes .now) in
-    let ms = (start .args .marks .now) in
-    let os = (start .args .out .now) in
-    let z = sizesOf p (length bs) (length os) in
-    meant p (at-ends .result) bs ms os (at-ends .last .1 .0) (at-ends .last .1 .1 .0) (at-ends .last .1 .1 .1 .0) z (at-m3 .given .1) (at-ends .ensures)
+    let at-stores = c .before .before .before .before .before .before .stores in
+    let at-meaning3 = c .before .before .before .before .before .before .before .before .before .before .before .meaning3 in
+    rw (at-meaning3 .given .1) (at-stores .ensures)
 
 same-length-8 : tie.Need-same-length-8
 same-length-8 c = search needs
@@ -172,17 +133,9 @@ same-length-10 c = search needs
 
 returns-8 : tie.Need-returns-8
 returns-8 c =
-    let back = c .before .before .before .before .before .before .before .before .before .before .before .before in
-    let at-marks-end = c .before .before .before .before .before .before .marks-end in
+    let at-stores2 = c .before .before .before .before .before .before .stores2 in
     let at-enum-told5 = c .before .before .before .before .before .before .before .before .before .before .enum-told5 in
-    let start = back .before .before .before in
-    let p = (start .args .p) in
-    let bs = (start .args .bytes .now) in
-    let ms = (start .args .marks .now) in
-    let os = (start .args .out .now) in
-    let z = sizesOf p (length bs) (length os) in
-    meant p (at-marks-end .result) bs ms os (at-marks-end .last .1 .0) (at-marks-end .last .1 .1 .0) (at-marks-end .last .1 .1 .1 .0) z
-    (at-enum-told5 .given .1) (at-marks-end .ensures)
+    rw (at-enum-told5 .given .1) (at-stores2 .ensures)
 
 same-length-11 : tie.Need-same-length-11
 same-length-11 c = search needs
@@ -195,17 +148,9 @@ same-length-13 c = search needs
 
 returns-9 : tie.Need-returns-9
 returns-9 c =
-    let back = c .before .before .before .before .before .before .before .before .before .before .before .before in
-    let at-stores = c .before .before .before .before .before .before .stores in
-    let at-m4 = c .before .before .before .before .before .before .before .before .before .before .before .m4 in
-    let start = back .before .before .before .before in
-    let p = (start .args .p) in
-    let bs = (start .args .bytes .now) in
-    let ms = (start .args .marks .now) in
-    let os = (start .args .out .now) in
-    let z = sizesOf p (length bs) (length os) in
-    meant p (at-stores .result) bs ms os (at-stores .last .1 .0) (at-stores .last .1 .1 .0) (at-stores .last .1 .1 .1 .0) z (at-m4 .given .1)
-    (at-stores .ensures)
+    let at-stores3 = c .before .before .before .before .before .before .stores3 in
+    let at-meaning4 = c .before .before .before .before .before .before .before .before .before .before .before .meaning4 in
+    rw (at-meaning4 .given .1) (at-stores3 .ensures)
 
 pub carries-spec : {M : Type 1} → statement M
 carries-spec =
@@ -213,21 +158,21 @@ carries-spec =
     (tie.spec
     enum-told
     sets-literal-requires
-    enum-known-m
+    enum-known-meaning
     signals-requires
     enum-told-2
     stopped-to-requires
     enum-told-3
     stopped-to-requires-2
     enum-told-4
-    enum-known-m-2
+    enum-known-meaning-2
     edit-requires
-    enum-known-m-3
-    ends-requires
-    enum-told-5
-    marks-end-requires
-    enum-known-m-4
+    enum-known-meaning-3
     stores-requires
+    enum-told-5
+    stores-requires-2
+    enum-known-meaning-4
+    stores-requires-3
     returns
     same-length
     returns-2

@@ -23,9 +23,8 @@ use Rattle.port.specs.declared.Port.{Port}
 use Rattle.port.specs.Layers.{state, sizesOf, unitsOf, Ranged, Ready, Becomes}
 use Rattle.port.proofs.Layers.{as-state, as-assembled, output-stays, stays}
 use Rattle.received.proofs.flushing.Laws.{then-shown}
-use Rattle.received.specs.edits.Contract.{without, Edited}
-use Rattle.received.specs.meaning.Meaning.{editOf}
-use Rattle.received.specs.declared.meaning.Edit.{Edit as Coded}
+use Rattle.received.specs.Contract.{Does}
+use Rattle.received.specs.edits.Contract.{without, edits, Edited}
 
 no-places : (l : List Place) → length l ≤ 0 → l ≡ []
 no-places [] le = refl
@@ -92,7 +91,7 @@ module _ (p : Port) (n : ℕ) (os : List ℕ) (g : Ranged p n (length os)) (run 
       (get-room (p .output) os)
       (subst (λ (y : List ℕ). Echoes (p .settings) (q .output) os y o os′) bytes k) er)
 
----- REPRINT on a port: the line stays, and its echo is shown. Assumes nothing
+---- REPRINT on a port: the line stays, and its echo is shown
 
 -- the line stays as it is
 same-line : (s : State) → withInput s (edited (s .settings) reprint (s .input)) ≡ s
@@ -106,20 +105,10 @@ reprint-shows (u ∷ us) z s b = ap (λ (y : State). shown z y (editEcho (s .set
 
 pub reprinted : (p r : Port) (bs ms os os′ : List ℕ) (b : ℕ) (o : Output) → Ready p bs ms os
     → Echoes (p .settings) (p .output) os (editEcho (p .settings) reprint b 0 (unitsOf p bs ms)) o os′ → r ≡ withOutput p o
-    → Becomes p bs ms os (editOn (unitsOf p bs ms) (sizesOf p (length bs) (length os)) (state p bs ms os) reprint b) r bs ms os′
+    → Does p bs ms os (edits reprint b) r bs ms os′
 reprinted p r bs ms os os′ b o g k er =
     let z : Sizes = sizesOf p (length bs) (length os) in
     let s : State = state p bs ms os in
     let e : List ℕ = editEcho (p .settings) reprint b 0 (unitsOf p bs ms) in
     as-state p r bs ms os bs ms os′ (shown z s e) (editOn (unitsOf p bs ms) z s reprint b) (reprint-shows (unitsOf p bs ms) z s b)
     (then-shown p p r bs ms os os′ e s o (length bs) (stays p bs ms os g) (get-room (p .output) os) k er)
-
----- What an edit comes to, by its kind. Assumes nothing
-
--- in the arm of one edit
-pub edited-by : {e k : Coded} (p r : Port) (bs ms os os′ : List ℕ) (b : ℕ) → e ≡ k
-    → Becomes p bs ms os (editOn (unitsOf p bs ms) (sizesOf p (length bs) (length os)) (state p bs ms os) (editOf k) b) r bs ms os′
-    → Becomes p bs ms os (editOn (unitsOf p bs ms) (sizesOf p (length bs) (length os)) (state p bs ms os) (editOf e) b) r bs ms os′
-edited-by p r bs ms os os′ b ee c =
-    subst (λ (y : Coded). Becomes p bs ms os (editOn (unitsOf p bs ms) (sizesOf p (length bs) (length os)) (state p bs ms os) (editOf y) b) r bs ms os′)
-    (sym ee) c

@@ -1,4 +1,4 @@
--- One lemma for each way out of the functions of this crate. Assumes nothing.
+-- One lemma for each way out of the functions that flush. Assumes nothing.
 use mathlib.Core.Path.{_≡_, refl, sym, ap, _∙_}
 use mathlib.Core.Bool.{Bool, true, false}
 use mathlib.Core.List.{List, [], _∷_}
@@ -105,7 +105,7 @@ then-shown p q r bs ms os os′ e w o n b le k er =
       waiting = b .waiting;
     })
 
----- 'Literal next', and stopped output. Assumes nothing
+---- 'Literal next', and stopped output
 
 module _ (p : Port) (bs ms os : List ℕ) (g : Ready p bs ms os) where
   literal-becomes : (l : Bool) → input.InputBecomes (p .input) bs ms (withLiteralNext (input.get (p .input) bs ms) l) (literalTo l (p .input)) bs ms
@@ -145,8 +145,6 @@ module _ (p : Port) (bs ms os : List ℕ) (g : Ready p bs ms os) where
         hung = refl;
         waiting = refl;
       })
-
----- One lemma for each way out of the functions of this crate. Assumes nothing
 
 pub ready-for : (p : Port) (n : ℕ) (bs ms os : List ℕ) → Ranged p n (length os) → length bs ≡ n → length ms ≡ n → Ready p bs ms os
 ready-for p n bs ms os g eb em = record { same = eb ∙ sym em; ranged = rw eb g }

@@ -9,7 +9,7 @@ pub and-right : (a b : Bool) → b ≡ false → (a && b) ≡ false
 and-right true b e = e
 and-right false b e = refl
 
----- Tests and the choices by them. Assumes nothing
+---- Tests and the choices by them
 
 -- r is the answer to the test t
 module _ {A : Type 0} {r : Bool} (t : Bool) where

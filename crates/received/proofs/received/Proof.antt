@@ -19,17 +19,17 @@ enum-told c = search needs
 quiet-requires : tie.Need-quiet-requires
 quiet-requires c κs = search needs
 
-enum-known-a : tie.Need-enum-known-a
-enum-known-a c = search needs
+enum-known-arrival : tie.Need-enum-known-arrival
+enum-known-arrival c = search needs
 
 good-requires : tie.Need-good-requires
 good-requires c κs = search needs
 
-enum-known-a-2 : tie.Need-enum-known-a-2
-enum-known-a-2 c = search needs
+enum-known-arrival-2 : tie.Need-enum-known-arrival-2
+enum-known-arrival-2 c = search needs
 
-silently-requires : tie.Need-silently-requires
-silently-requires c κs = search needs
+stores-requires : tie.Need-stores-requires
+stores-requires c κs = search needs
 
 quiet-requires-2 : tie.Need-quiet-requires-2
 quiet-requires-2 c κs = search needs
@@ -80,7 +80,7 @@ returns-2 : tie.Need-returns-2
 returns-2 c =
     let back = c .before .before .before .before .before .before .before .before .before .before .before .before in
     let at-good2 = c .before .before .before .before .before .before .good2 in
-    let at-a = c .before .before .before .before .before .before .before .before .before .before .before .a in
+    let at-arrival = c .before .before .before .before .before .before .before .before .before .before .before .arrival in
     let at-arrives = back .before .arrives in
     let start = back .before .before .before .before .before in
     let p = (start .args .p) in
@@ -89,7 +89,7 @@ returns-2 c =
     let os = (start .args .out .now) in
     let z = sizesOf p (length bs) (length os) in
     happens p bs ms os (at-good2 .last .1 .0) (at-good2 .last .1 .1 .0) (at-good2 .last .1 .1 .1 .0) z (start .args .e) (at-good2 .result)
-    (at-arrives .ensures) (at-a .given .1) (at-good2 .ensures)
+    (at-arrives .ensures) (at-arrival .given .1) (at-good2 .ensures)
 
 same-length-4 : tie.Need-same-length-4
 same-length-4 c = search needs
@@ -103,8 +103,8 @@ same-length-6 c = search needs
 returns-3 : tie.Need-returns-3
 returns-3 c =
     let back = c .before .before .before .before .before .before .before .before .before .before .before .before in
-    let at-silently = c .before .before .before .before .before .before .before .silently in
-    let at-a2 = c .before .before .before .before .before .before .before .before .before .before .before .before .a2 in
+    let at-stores = c .before .before .before .before .before .before .before .stores in
+    let at-arrival2 = c .before .before .before .before .before .before .before .before .before .before .before .before .arrival2 in
     let at-arrives = back .before .before .arrives in
     let start = back .before .before .before .before .before .before in
     let p = (start .args .p) in
@@ -112,9 +112,9 @@ returns-3 c =
     let ms = (start .args .marks .now) in
     let os = (start .args .out .now) in
     let z = sizesOf p (length bs) (length os) in
-    happens p bs ms os (at-silently .last .1 .0) (at-silently .last .1 .1 .0) (at-silently .last .1 .1 .1 .0) z (start .args .e) (c .quiet2 .result)
-    (at-arrives .ensures) (at-a2 .given .1) (quiet-of p (at-silently .result) bs ms os (at-silently .last .1 .0) (at-silently .last .1 .1 .0)
-    (at-silently .last .1 .1 .1 .0) _ (c .quiet2 .result) (c .quiet2 .ensures) (at-silently .ensures))
+    happens p bs ms os (at-stores .last .1 .0) (at-stores .last .1 .1 .0) (at-stores .last .1 .1 .1 .0) z (start .args .e) (c .quiet2 .result)
+    (at-arrives .ensures) (at-arrival2 .given .1) (quiet-of p (at-stores .result) bs ms os (at-stores .last .1 .0) (at-stores .last .1 .1 .0)
+    (at-stores .last .1 .1 .1 .0) _ (c .quiet2 .result) (c .quiet2 .ensures) (at-stores .ensures))
 
 same-length-7 : tie.Need-same-length-7
 same-length-7 c = search needs
@@ -169,10 +169,10 @@ received-spec =
     arrives-requires
     enum-told
     quiet-requires
-    enum-known-a
+    enum-known-arrival
     good-requires
-    enum-known-a-2
-    silently-requires
+    enum-known-arrival-2
+    stores-requires
     quiet-requires-2
     enum-told-2
     interrupts-requires

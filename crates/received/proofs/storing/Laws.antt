@@ -8,7 +8,7 @@ use lib.ListN.{length}
 use lib.Dec.{leb, ltb}
 use borrow.Author.Tests.{leb-true, ltb-true}
 use Rattle.rules.specs.declared.Waiting.{Waiting}
-use Rattle.rules.specs.Sizes.{Sizes, State, Place, used}
+use Rattle.rules.specs.Sizes.{Sizes, State, Place, used, delimiter, endOfFile}
 use Rattle.rules.specs.Flushing as flushing
 use Rattle.rules.specs.Fit as fit
 use Rattle.rules.specs.Echo.{shown}
@@ -19,10 +19,13 @@ use Rattle.input.proofs.Laws as stored
 use Rattle.output.specs.Contract as output
 use Rattle.output.specs.declared.Output.{Output}
 use Rattle.output.specs.Contract.{Echoes}
-use Rattle.echo.proofs.Laws.{shows-none}
 use Rattle.port.specs.declared.Port.{Port}
 use Rattle.port.specs.Layers.{state, sizesOf, Ready, Becomes, Turns, assembled}
 use Rattle.port.proofs.Layers.{as-state, as-assembled}
+use Rattle.received.specs.Contract.{Does}
+use Rattle.received.specs.storing.Contract.{placesOf, echoOf, keptOf, Fits, stores}
+use Rattle.received.specs.declared.storing.Stored.{Stored}
+use Rattle.received.specs.declared.storing.Stored.the-variants.{Byte, Silent, Delimiter, Mark}
 
 ---- A unit k, and what it shows: bytes e, by which the output becomes o
 
@@ -50,11 +53,11 @@ module _ (p : Port) (bs ms os : List ℕ) (g : Ready p bs ms os) where
       )
   unit-free false k f = omega (arith, leb-true (used (input.get (p .input) bs ms) + k) (length bs) f, places-used)
 
-  pub unit-room : (k : ℕ) (t : Bool) → input.TellsUnit (p .input) (length bs) (p .line) (p .settings .icanon) k t → t ≡ true → input.Room (p .input) bs ms k
+  unit-room : (k : ℕ) (t : Bool) → input.TellsUnit (p .input) (length bs) (p .line) (p .settings .icanon) k t → t ≡ true → input.Room (p .input) bs ms k
   unit-room k t tells e =
       record { same = g .same; within = g .ranged .input; room = unit-free (p .settings .icanon) k (sym (unit-tells k t tells) ∙ e) }
 
-  pub end-room : (t : Bool) → input.TellsEnd (p .input) (length bs) t → t ≡ true → input.Room (p .input) bs ms 1
+  end-room : (t : Bool) → input.TellsEnd (p .input) (length bs) t → t ≡ true → input.Room (p .input) bs ms 1
   end-room t tells e =
       record {
         same = g .same;
@@ -66,7 +69,7 @@ module _ (p : Port) (bs ms os : List ℕ) (g : Ready p bs ms os) where
   timed = fit.timerStored (flushing.betweenBytes (p .settings)) (p .settings) (p .waiting)
 
   -- stored, with the waiting read's timer
-  pub stored-unit : (k : List Place) (e : List ℕ) (t : Bool) (i : Input) (o : Output) (r : Port) (bs′ ms′ os′ : List ℕ)
+  stored-unit : (k : List Place) (e : List ℕ) (t : Bool) (i : Input) (o : Output) (r : Port) (bs′ ms′ os′ : List ℕ)
       → input.TellsUnit (p .input) (length bs) (p .line) (p .settings .icanon) (length k) t → t ≡ true
       → input.InputBecomes (p .input) bs ms (fit.keptIn (p .settings .icanon) (input.get (p .input) bs ms) k) i bs′ ms′
       → Echoes (p .settings) (p .output) os e o os′
@@ -81,7 +84,7 @@ module _ (p : Port) (bs ms os : List ℕ) (g : Ready p bs ms os) where
       (as-assembled p (assembled p i o timed) r bs ms os bs′ ms′ os′ (fit.unitOn true z v k e) er
       (record { input = b; output = shown; settings = refl; line = refl; foreground = refl; hung = refl; waiting = refl }))
 
-  pub dropped-unit : (k : List Place) (e : List ℕ) (t : Bool) (r : Port) (os′ : List ℕ)
+  dropped-unit : (k : List Place) (e : List ℕ) (t : Bool) (r : Port) (os′ : List ℕ)
       → input.TellsUnit (p .input) (length bs) (p .line) (p .settings .icanon) (length k) t → t ≡ false → Turns p (length bs) os fit.overflow r os′
       → Becomes p bs ms os (fit.storesUnit (sizesOf p (length bs) (length os)) (state p bs ms os) k e) r bs ms os′
   dropped-unit k e t r os′ tells full b =
@@ -91,7 +94,7 @@ module _ (p : Port) (bs ms os : List ℕ) (g : Ready p bs ms os) where
       (ap (λ (y : Bool). fit.unitOn y z v k e) (sym full ∙ unit-tells (length k) t tells)) (b bs ms refl (sym (g .same)))
 
   -- a delimiter or a mark
-  pub ended-line : (q : Place) (e : List ℕ) (t : Bool) (i : Input) (o : Output) (r : Port) (bs′ ms′ os′ : List ℕ)
+  ended-line : (q : Place) (e : List ℕ) (t : Bool) (i : Input) (o : Output) (r : Port) (bs′ ms′ os′ : List ℕ)
       → input.TellsEnd (p .input) (length bs) t → t ≡ true
       → input.InputBecomes (p .input) bs ms (input.endedIn (input.get (p .input) bs ms) q) i bs′ ms′
       → Echoes (p .settings) (p .output) os e o os′
@@ -106,7 +109,7 @@ module _ (p : Port) (bs ms os : List ℕ) (g : Ready p bs ms os) where
       (as-assembled p (assembled p i o timed) r bs ms os bs′ ms′ os′ (fit.endOn true z v q e) er
       (record { input = b; output = shown; settings = refl; line = refl; foreground = refl; hung = refl; waiting = refl }))
 
-  pub dropped-end : (q : Place) (e : List ℕ) (t : Bool) (r : Port) (os′ : List ℕ)
+  dropped-end : (q : Place) (e : List ℕ) (t : Bool) (r : Port) (os′ : List ℕ)
       → input.TellsEnd (p .input) (length bs) t → t ≡ false → Turns p (length bs) os fit.overflow r os′
       → Becomes p bs ms os (fit.storesEnd (sizesOf p (length bs) (length os)) (state p bs ms os) q e) r bs ms os′
   dropped-end q e t r os′ tells full b =
@@ -115,8 +118,29 @@ module _ (p : Port) (bs ms os : List ℕ) (g : Ready p bs ms os) where
       as-state p r bs ms os bs ms os′ (fit.overflow z v) (fit.storesEnd z v q e)
       (ap (λ (y : Bool). fit.endOn y z v q e) (sym full ∙ end-tells t tells)) (b bs ms refl (sym (g .same)))
 
-  -- nothing is shown
-  pub unseen : Echoes (p .settings) (p .output) os [] (p .output) os
-  unseen = shows-none (p .settings) (p .output) (p .output) os (g .ranged .output)
+  ---- What is stored, by cases
 
----- The unit of a byte: 'A 255 with PARMRK set, IGNPAR and ISTRIP clear is stored twice'
+  pub room-for : (what : Stored) (t : Bool) → Fits p (length bs) what t → t ≡ true → input.Room (p .input) bs ms (length (placesOf (p .settings) what))
+  room-for (Byte b) t tells e = unit-room (length (placesOf (p .settings) (Byte b))) t tells e
+  room-for (Silent u) t tells e = unit-room (length (input.unitOf u)) t tells e
+  room-for (Delimiter b) t tells e = end-room t tells e
+  room-for Mark t tells e = end-room t tells e
+
+  pub stored-of : (what : Stored) (t : Bool) (i : Input) (o : Output) (r : Port) (bs′ ms′ os′ : List ℕ) → Fits p (length bs) what t → t ≡ true
+      → input.InputBecomes (p .input) bs ms (keptOf (p .settings) (input.get (p .input) bs ms) what) i bs′ ms′
+      → Echoes (p .settings) (p .output) os (echoOf (p .settings) what) o os′
+      → r ≡ assembled p i o timed
+      → Does p bs ms os (stores what) r bs′ ms′ os′
+  stored-of (Byte b) t i o r bs′ ms′ os′ tells e k h er =
+      stored-unit (placesOf (p .settings) (Byte b)) (echoOf (p .settings) (Byte b)) t i o r bs′ ms′ os′ tells e k h er
+  stored-of (Silent u) t i o r bs′ ms′ os′ tells e k h er = stored-unit (input.unitOf u) [] t i o r bs′ ms′ os′ tells e k h er
+  stored-of (Delimiter b) t i o r bs′ ms′ os′ tells e k h er =
+      ended-line (delimiter b) (echoOf (p .settings) (Delimiter b)) t i o r bs′ ms′ os′ tells e k h er
+  stored-of Mark t i o r bs′ ms′ os′ tells e k h er = ended-line endOfFile [] t i o r bs′ ms′ os′ tells e k h er
+
+  pub dropped-of : (what : Stored) (t : Bool) (r : Port) (os′ : List ℕ) → Fits p (length bs) what t → t ≡ false → Turns p (length bs) os fit.overflow r os′
+      → Does p bs ms os (stores what) r bs ms os′
+  dropped-of (Byte b) t r os′ tells e h = dropped-unit (placesOf (p .settings) (Byte b)) (echoOf (p .settings) (Byte b)) t r os′ tells e h
+  dropped-of (Silent u) t r os′ tells e h = dropped-unit (input.unitOf u) [] t r os′ tells e h
+  dropped-of (Delimiter b) t r os′ tells e h = dropped-end (delimiter b) (echoOf (p .settings) (Delimiter b)) t r os′ tells e h
+  dropped-of Mark t r os′ tells e h = dropped-end endOfFile [] t r os′ tells e h

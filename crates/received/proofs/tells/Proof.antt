@@ -1,7 +1,6 @@
 -- `received::tells` meets its contract. Assumes nothing.
 use mathlib.Core.Path.{refl, sym, ap, _∙_}
 use Rattle.rules.specs.Received.{reported}
-use Rattle.received.proofs.GoodByte.{told}
 use borrow.Author.Needs.{needs}
 use Rattle.received.proofs.tells.Statement.{statement}
 use Rattle.received.proofs.tells.Tie as tie
@@ -9,8 +8,8 @@ use Rattle.received.proofs.tells.Tie as tie
 enum-told : tie.Need-enum-told
 enum-told c = search needs
 
-enum-known-m : tie.Need-enum-known-m
-enum-known-m c = search needs
+enum-known-meaning : tie.Need-enum-known-meaning
+enum-known-meaning c = search needs
 
 reported-requires : tie.Need-reported-requires
 reported-requires c κs = search needs
@@ -37,41 +36,40 @@ enum-told-8 : tie.Need-enum-told-8
 enum-told-8 c = search needs
 
 returns : tie.Need-returns
-returns c = told ((c .before .before .args .f)) _ (c .enum-told .given .1) (λ z s x e. refl)
+returns c = rw (c .enum-told .given .1) (λ z s x e. refl)
 
 returns-2 : tie.Need-returns-2
 returns-2 c =
-    let at-m = c .before .before .m in
-    let start = c .before .before .before .before in
-    told (start .args .f) (c .reported .result) (at-m .given .1) (λ z s x e. (c .reported .ensures) ∙ ap (reported ((at-m .given) .0 .0)) (sym e))
+    let at-meaning = c .before .before .meaning in
+    rw (at-meaning .given .1) (λ z s x e. (c .reported .ensures) ∙ ap (reported (at-meaning .given .0 .0)) (sym e))
 
 returns-3 : tie.Need-returns-3
-returns-3 c = told ((c .before .before .args .f)) _ (c .enum-told2 .given .1) (λ z s x e. refl)
+returns-3 c = rw (c .enum-told2 .given .1) (λ z s x e. refl)
 
 returns-4 : tie.Need-returns-4
-returns-4 c = told ((c .before .before .args .f)) _ (c .enum-told3 .given .1) (λ z s x e. refl)
+returns-4 c = rw (c .enum-told3 .given .1) (λ z s x e. refl)
 
 returns-5 : tie.Need-returns-5
-returns-5 c = told ((c .before .before .args .f)) _ (c .enum-told4 .given .1) (λ z s x e. refl)
+returns-5 c = rw (c .enum-told4 .given .1) (λ z s x e. refl)
 
 returns-6 : tie.Need-returns-6
-returns-6 c = told ((c .before .before .args .f)) _ (c .enum-told5 .given .1) (λ z s x e. refl)
+returns-6 c = rw (c .enum-told5 .given .1) (λ z s x e. refl)
 
 returns-7 : tie.Need-returns-7
-returns-7 c = told ((c .before .before .args .f)) _ (c .enum-told6 .given .1) (λ z s x e. refl)
+returns-7 c = rw (c .enum-told6 .given .1) (λ z s x e. refl)
 
 returns-8 : tie.Need-returns-8
-returns-8 c = told ((c .before .before .args .f)) _ (c .enum-told7 .given .1) (λ z s x e. refl)
+returns-8 c = rw (c .enum-told7 .given .1) (λ z s x e. refl)
 
 returns-9 : tie.Need-returns-9
-returns-9 c = told ((c .before .before .args .f)) _ (c .enum-told8 .given .1) (λ z s x e. refl)
+returns-9 c = rw (c .enum-told8 .given .1) (λ z s x e. refl)
 
 pub tells-spec : {M : Type 1} → statement M
 tells-spec =
     tie.close
     (tie.spec
     enum-told
-    enum-known-m
+    enum-known-meaning
     reported-requires
     enum-told-2
     enum-told-3

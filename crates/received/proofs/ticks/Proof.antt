@@ -1,5 +1,5 @@
 -- `received::ticks` meets its contract. Assumes nothing.
-use mathlib.Core.Path.{ap, _∙_}
+use mathlib.Core.Path.{ap}
 use Rattle.rules.specs.declared.Waiting.{Waiting}
 use Rattle.port.specs.Layers.{assembled}
 use borrow.Author.Needs.{needs}
@@ -9,14 +9,10 @@ use Rattle.received.proofs.ticks.Tie as tie
 lowered-requires : tie.Need-lowered-requires
 lowered-requires c κs = search needs
 
-assemble-requires : tie.Need-assemble-requires
-assemble-requires c κs = search needs
-
 returns : tie.Need-returns
 returns c =
-    let start = c .before .before .before .before in
-    (c .assemble .ensures) ∙ ap (λ (y : Waiting). assembled (start .args .p) ((start .args .p) .input) ((start .args .p) .output) y)
-    (c .before .lowered .ensures)
+    let p = c .before .before .before .before .args .p in
+    ap (λ (y : Waiting). assembled p (p .input) (p .output) y) (c .before .before .before .lowered .ensures)
 
 pub ticks-spec : {M : Type 1} → statement M
-ticks-spec = tie.close (tie.spec lowered-requires assemble-requires returns)
+ticks-spec = tie.close (tie.spec lowered-requires returns)

@@ -1,5 +1,6 @@
 -- The meanings of the code as meanings of the rules, which also say what a byte shows.
 use Rattle.rules.specs.declared.Settings.{Settings}
+use Rattle.rules.specs.Sizes.{Sizes, State}
 use Rattle.rules.specs.Editing.{erase, wordErase, kill, reprint}
 use Rattle.rules.specs.Editing as rule
 use Rattle.rules.specs.Echo.{echoOf, storedEcho}
@@ -26,3 +27,7 @@ meaningOf x (Edits e b) = edits (editOf e) b
 meaningOf x (Ends b) = ends b (storedEcho x b)
 meaningOf x Marks = marks
 meaningOf x (Stores b) = plainly x b
+
+-- it is carried out
+abbrev pub carryOf : Meaning → Sizes → State → State
+carryOf m z s = steps.carry z s (meaningOf (s .settings) m) .0

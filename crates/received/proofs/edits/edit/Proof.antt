@@ -1,7 +1,6 @@
 -- `received::edits::edit` meets its contract. Assumes nothing.
 use mathlib.Core.Path.{refl, sym}
 use Rattle.port.proofs.Layers.{within-marks}
-use Rattle.received.proofs.edits.Laws.{edited-by}
 use borrow.Author.Needs.{needs}
 use Rattle.received.proofs.edits.edit.Statement.{statement}
 use Rattle.received.proofs.edits.edit.Tie as tie
@@ -54,12 +53,9 @@ returns c =
     let at-last-unit = c .before .before .before .before .last-unit in
     let at-enum-told = c .before .before .before .before .before .enum-told in
     let start = c .before .before .before .before .before .before .before .before .before .before .before .before in
-    let p = (start .args .p) in
-    let bs = (start .args .bytes .now) in
-    let ms = (start .args .marks .now) in
-    let os = (start .args .out .now) in
-    edited-by p (at-erases .result) bs ms os (at-erases .last .1 .1 .0) (start .args .b) (at-enum-told .given .1)
-    ((at-erases .ensures) .0 bs ms refl (sym ((start .pre) .same)) ((at-last-unit .ensures) bs ((start .pre) .same)))
+    rw (at-enum-told .given .1)
+    (at-erases .ensures .0 (start .args .bytes .now) (start .args .marks .now) refl (sym (start .pre .same))
+    (at-last-unit .ensures (start .args .bytes .now) (start .pre .same)))
 
 same-length-2 : tie.Need-same-length-2
 same-length-2 c = search needs
@@ -70,12 +66,8 @@ returns-2 c =
     let at-last-word = c .before .before .before .before .last-word in
     let at-enum-told2 = c .before .before .before .before .before .enum-told2 in
     let start = c .before .before .before .before .before .before .before .before .before .before .before .before in
-    let p = (start .args .p) in
-    let bs = (start .args .bytes .now) in
-    let ms = (start .args .marks .now) in
-    let os = (start .args .out .now) in
-    edited-by p (at-erases2 .result) bs ms os (at-erases2 .last .1 .1 .0) (start .args .b) (at-enum-told2 .given .1)
-    ((at-erases2 .ensures) .1 bs ms refl (sym ((start .pre) .same)) (at-last-word .ensures))
+    rw (at-enum-told2 .given .1)
+    (at-erases2 .ensures .1 (start .args .bytes .now) (start .args .marks .now) refl (sym (start .pre .same)) (at-last-word .ensures))
 
 same-length-3 : tie.Need-same-length-3
 same-length-3 c = search needs
@@ -86,26 +78,16 @@ returns-3 c =
     let at-whole-line = c .before .before .before .before .whole-line in
     let at-enum-told3 = c .before .before .before .before .before .enum-told3 in
     let start = c .before .before .before .before .before .before .before .before .before .before .before .before in
-    let p = (start .args .p) in
-    let bs = (start .args .bytes .now) in
-    let ms = (start .args .marks .now) in
-    let os = (start .args .out .now) in
-    edited-by p (at-kills .result) bs ms os (at-kills .last .1 .1 .0) (start .args .b) (at-enum-told3 .given .1)
-    ((at-kills .ensures) bs ms refl (sym ((start .pre) .same)) ((at-whole-line .ensures) bs ((start .pre) .same)))
+    rw (at-enum-told3 .given .1)
+    (at-kills .ensures (start .args .bytes .now) (start .args .marks .now) refl (sym (start .pre .same))
+    (at-whole-line .ensures (start .args .bytes .now) (start .pre .same)))
 
 same-length-4 : tie.Need-same-length-4
 same-length-4 c = search needs
 
 returns-4 : tie.Need-returns-4
 returns-4 c =
-    let at-reprints = c .before .before .reprints in
-    let at-enum-told4 = c .before .before .before .before .enum-told4 in
-    let start = c .before .before .before .before .before .before .before .before .before .before .before in
-    let p = (start .args .p) in
-    let bs = (start .args .bytes .now) in
-    let ms = (start .args .marks .now) in
-    let os = (start .args .out .now) in
-    edited-by p (at-reprints .result) bs ms os (at-reprints .last .1 .1 .1 .0) (start .args .b) (at-enum-told4 .given .1) (at-reprints .ensures)
+    rw (c .before .before .before .before .enum-told4 .given .1) (c .before .before .reprints .ensures)
 
 pub edit-spec : {M : Type 1} → statement M
 edit-spec =

@@ -7,19 +7,19 @@ use Rattle.received.proofs.flushing.overflow.Tie as tie
 bell-requires : tie.Need-bell-requires
 bell-requires c κs = search needs
 
-assemble-requires : tie.Need-assemble-requires
-assemble-requires c κs = search needs
+with-output-requires : tie.Need-with-output-requires
+with-output-requires c κs = search needs
 
 same-length : tie.Need-same-length
 same-length c = search needs
 
 returns : tie.Need-returns
 returns c =
-    let at-bell = c .before .before .before .before .bell in
-    let at-if1 = c .before .before .before .before .before .before .before .if1 in
-    let start = c .before .before .before .before .before .before .before .before .before .before in
-    bell-of (start .args .p) (start .args .n) (start .args .out .now) (start .pre) (at-bell .result) (c .assemble .result) (at-bell .last .1 .1 .0)
-    (at-if1 .taken) (at-bell .ensures) (c .assemble .ensures)
+    let at-bell = c .before .before .before .bell in
+    let at-if1 = c .before .before .before .before .before .before .if1 in
+    let start = c .before .before .before .before .before .before .before .before .before in
+    bell-of (start .args .p) (start .args .n) (start .args .out .now) (start .pre) (at-bell .result) (c .with-output .result) (at-bell .last .1 .1 .0)
+    (at-if1 .taken) (at-bell .ensures) (c .with-output .ensures)
 
 flush-input-requires : tie.Need-flush-input-requires
 flush-input-requires c κs = search needs
@@ -38,7 +38,7 @@ overflow-spec =
     tie.close
     (tie.spec
     bell-requires
-    assemble-requires
+    with-output-requires
     same-length
     returns
     flush-input-requires
