@@ -6,7 +6,7 @@ ghost use Rattle.input.specs.Contract.{Within, Room, InputBecomes, get};
 ghost use Rattle.output.specs.Contract.{Echoes, inRange};
 ghost use Rattle.port.specs.Layers.{Ready};
 ghost use Rattle.received.specs.Contract.{Does};
-ghost use Rattle.received.specs.storing.Contract.{Fits, placesOf, keptOf, echoOf};
+ghost use Rattle.received.specs.storing.Contract.{Fits, placesTaken, inputWith, bytesShown};
 ghost use Rattle.received.specs.storing.Contract as rule;
 use super::flushing;
 use input::Input;
@@ -45,8 +45,8 @@ fn fits(p: Port, n: usize, what: Stored) -> bool
 
 // the input with it
 fn kept(i: Input, x: Settings, bytes: &mut [u8], marks: &mut [u8], what: Stored) -> Input
-    requires { ⌜ Room i (now bytes) (now marks) (length (placesOf x what)) ⌝ }
-    ensures { λ r. ⌜ InputBecomes i (before bytes) (before marks) (keptOf x (get i (before bytes) (before marks)) what) r (after bytes) (after marks) ⌝ }
+    requires { ⌜ Room i (now bytes) (now marks) (length (placesTaken x what)) ⌝ }
+    ensures { λ r. ⌜ InputBecomes i (before bytes) (before marks) (inputWith x (get i (before bytes) (before marks)) what) r (after bytes) (after marks) ⌝ }
 {
     match what {
         Stored::Byte(b) => {
@@ -62,7 +62,7 @@ fn kept(i: Input, x: Settings, bytes: &mut [u8], marks: &mut [u8], what: Stored)
 // the output with what it shows
 fn shown(o: Output, x: Settings, out: &mut [u8], what: Stored) -> Output
     requires { ⌜ o ≡ inRange (length (now out)) o ⌝ }
-    ensures { λ r. ⌜ Echoes x o (before out) (echoOf x what) r (after out) ⌝ }
+    ensures { λ r. ⌜ Echoes x o (before out) (bytesShown x what) r (after out) ⌝ }
 {
     match what {
         Stored::Byte(b) => echo::of_stored(o, x, out, b),
@@ -81,7 +81,7 @@ pub(crate) fn stores(
     what: Stored,
 ) -> Port
     requires { ⌜ Ready p (now bytes) (now marks) (now out) ⌝ }
-    ensures { λ r. ⌜ Does p (before bytes) (before marks) (before out) (rule.stores what) r (after bytes) (after marks) (after out) ⌝ }
+    ensures { λ r. ⌜ Does p (before bytes) (before marks) (before out) (rule.storing what) r (after bytes) (after marks) (after out) ⌝ }
 {
     let x = p.settings;
     let i = p.input;

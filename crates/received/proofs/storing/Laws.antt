@@ -23,7 +23,7 @@ use Rattle.port.specs.declared.Port.{Port}
 use Rattle.port.specs.Layers.{state, sizesOf, Ready, Becomes, Turns, assembled}
 use Rattle.port.proofs.Layers.{as-state, as-assembled}
 use Rattle.received.specs.Contract.{Does}
-use Rattle.received.specs.storing.Contract.{placesOf, echoOf, keptOf, Fits, stores}
+use Rattle.received.specs.storing.Contract.{placesTaken, bytesShown, inputWith, Fits, storing}
 use Rattle.received.specs.declared.storing.Stored.{Stored}
 use Rattle.received.specs.declared.storing.Stored.the-variants.{Byte, Silent, Delimiter, Mark}
 
@@ -120,27 +120,27 @@ module _ (p : Port) (bs ms os : List ℕ) (g : Ready p bs ms os) where
 
   ---- What is stored, by cases
 
-  pub room-for : (what : Stored) (t : Bool) → Fits p (length bs) what t → t ≡ true → input.Room (p .input) bs ms (length (placesOf (p .settings) what))
-  room-for (Byte b) t tells e = unit-room (length (placesOf (p .settings) (Byte b))) t tells e
+  pub room-for : (what : Stored) (t : Bool) → Fits p (length bs) what t → t ≡ true → input.Room (p .input) bs ms (length (placesTaken (p .settings) what))
+  room-for (Byte b) t tells e = unit-room (length (placesTaken (p .settings) (Byte b))) t tells e
   room-for (Silent u) t tells e = unit-room (length (input.unitOf u)) t tells e
   room-for (Delimiter b) t tells e = end-room t tells e
   room-for Mark t tells e = end-room t tells e
 
   pub stored-of : (what : Stored) (t : Bool) (i : Input) (o : Output) (r : Port) (bs′ ms′ os′ : List ℕ) → Fits p (length bs) what t → t ≡ true
-      → input.InputBecomes (p .input) bs ms (keptOf (p .settings) (input.get (p .input) bs ms) what) i bs′ ms′
-      → Echoes (p .settings) (p .output) os (echoOf (p .settings) what) o os′
+      → input.InputBecomes (p .input) bs ms (inputWith (p .settings) (input.get (p .input) bs ms) what) i bs′ ms′
+      → Echoes (p .settings) (p .output) os (bytesShown (p .settings) what) o os′
       → r ≡ assembled p i o timed
-      → Does p bs ms os (stores what) r bs′ ms′ os′
+      → Does p bs ms os (storing what) r bs′ ms′ os′
   stored-of (Byte b) t i o r bs′ ms′ os′ tells e k h er =
-      stored-unit (placesOf (p .settings) (Byte b)) (echoOf (p .settings) (Byte b)) t i o r bs′ ms′ os′ tells e k h er
+      stored-unit (placesTaken (p .settings) (Byte b)) (bytesShown (p .settings) (Byte b)) t i o r bs′ ms′ os′ tells e k h er
   stored-of (Silent u) t i o r bs′ ms′ os′ tells e k h er = stored-unit (input.unitOf u) [] t i o r bs′ ms′ os′ tells e k h er
   stored-of (Delimiter b) t i o r bs′ ms′ os′ tells e k h er =
-      ended-line (delimiter b) (echoOf (p .settings) (Delimiter b)) t i o r bs′ ms′ os′ tells e k h er
+      ended-line (delimiter b) (bytesShown (p .settings) (Delimiter b)) t i o r bs′ ms′ os′ tells e k h er
   stored-of Mark t i o r bs′ ms′ os′ tells e k h er = ended-line endOfFile [] t i o r bs′ ms′ os′ tells e k h er
 
   pub dropped-of : (what : Stored) (t : Bool) (r : Port) (os′ : List ℕ) → Fits p (length bs) what t → t ≡ false → Turns p (length bs) os fit.overflow r os′
-      → Does p bs ms os (stores what) r bs ms os′
-  dropped-of (Byte b) t r os′ tells e h = dropped-unit (placesOf (p .settings) (Byte b)) (echoOf (p .settings) (Byte b)) t r os′ tells e h
+      → Does p bs ms os (storing what) r bs ms os′
+  dropped-of (Byte b) t r os′ tells e h = dropped-unit (placesTaken (p .settings) (Byte b)) (bytesShown (p .settings) (Byte b)) t r os′ tells e h
   dropped-of (Silent u) t r os′ tells e h = dropped-unit (input.unitOf u) [] t r os′ tells e h
-  dropped-of (Delimiter b) t r os′ tells e h = dropped-end (delimiter b) (echoOf (p .settings) (Delimiter b)) t r os′ tells e h
+  dropped-of (Delimiter b) t r os′ tells e h = dropped-end (delimiter b) (bytesShown (p .settings) (Delimiter b)) t r os′ tells e h
   dropped-of Mark t r os′ tells e h = dropped-end endOfFile [] t r os′ tells e h

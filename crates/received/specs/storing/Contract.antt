@@ -1,4 +1,4 @@
--- What an event stores, in the rules: what it is there, whether it fits, what it shows.
+-- What an event storing, in the rules: what it is there, whether it fits, what it shows.
 use Prim.Native.Nat.{ℕ}
 use mathlib.Core.Bool.{Bool, false}
 use mathlib.Core.List.{List, [], _∷_}
@@ -14,25 +14,25 @@ use Rattle.received.specs.declared.storing.Stored.{Stored}
 use Rattle.received.specs.declared.storing.Stored.the-variants.{Byte, Silent, Delimiter, Mark}
 
 -- the places that it takes
-abbrev pub placesOf : Settings → Stored → List Place
-placesOf x (Byte b) = unit false b (doubled x b)
-placesOf x (Silent u) = unitOf u
-placesOf x (Delimiter b) = delimiter b ∷ []
-placesOf x Mark = endOfFile ∷ []
+abbrev pub placesTaken : Settings → Stored → List Place
+placesTaken x (Byte b) = unit false b (doubled x b)
+placesTaken x (Silent u) = unitOf u
+placesTaken x (Delimiter b) = delimiter b ∷ []
+placesTaken x Mark = endOfFile ∷ []
 
 -- the bytes that it shows
-abbrev pub echoOf : Settings → Stored → List ℕ
-echoOf x (Byte b) = storedEcho x b
-echoOf x (Silent u) = []
-echoOf x (Delimiter b) = storedEcho x b
-echoOf x Mark = []
+abbrev pub bytesShown : Settings → Stored → List ℕ
+bytesShown x (Byte b) = storedEcho x b
+bytesShown x (Silent u) = []
+bytesShown x (Delimiter b) = storedEcho x b
+bytesShown x Mark = []
 
 -- the input with it
-abbrev pub keptOf : Settings → Input → Stored → Input
-keptOf x i (Byte b) = keptIn (x .icanon) i (unit false b (doubled x b))
-keptOf x i (Silent u) = keptIn (x .icanon) i (unitOf u)
-keptOf x i (Delimiter b) = endedIn i (delimiter b)
-keptOf x i Mark = endedIn i endOfFile
+abbrev pub inputWith : Settings → Input → Stored → Input
+inputWith x i (Byte b) = keptIn (x .icanon) i (unit false b (doubled x b))
+inputWith x i (Silent u) = keptIn (x .icanon) i (unitOf u)
+inputWith x i (Delimiter b) = endedIn i (delimiter b)
+inputWith x i Mark = endedIn i endOfFile
 
 -- whether it fits in n places
 abbrev pub Fits : Port → ℕ → Stored → Bool → Type 0
@@ -42,8 +42,8 @@ Fits p n (Delimiter b) r = TellsEnd (p .input) n r
 Fits p n Mark r = TellsEnd (p .input) n r
 
 -- the rules' step: it is stored, or dropped
-abbrev pub stores : Stored → Sizes → State → State
-stores (Byte b) z s = storesUnit z s (unit false b (doubled (s .settings) b)) (storedEcho (s .settings) b)
-stores (Silent u) z s = storesUnit z s (unitOf u) []
-stores (Delimiter b) z s = storesEnd z s (delimiter b) (storedEcho (s .settings) b)
-stores Mark z s = storesEnd z s endOfFile []
+abbrev pub storing : Stored → Sizes → State → State
+storing (Byte b) z s = storesUnit z s (unit false b (doubled (s .settings) b)) (storedEcho (s .settings) b)
+storing (Silent u) z s = storesUnit z s (unitOf u) []
+storing (Delimiter b) z s = storesEnd z s (delimiter b) (storedEcho (s .settings) b)
+storing Mark z s = storesEnd z s endOfFile []
