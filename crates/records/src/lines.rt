@@ -15,6 +15,15 @@ use rules::Refusal;
 use rules::Signal;
 use rules::Verdict;
 
+// An index, a kind and a count are at most 65,535.
+const DIGITS: usize = 5;
+
+// the digit 0
+const ZERO: u8 = b'0';
+
+// 10 below the digit `a` of lower hex, which stands for 10
+const BELOW_A: u8 = b'a' - 10;
+
 // Each of these writes a text from place at on, as much of it as the buffer holds, and answers the place after it.
 pub fn put_byte(line: &mut [u8], at: usize, b: u8) -> usize
     ensures { λ r. ⌜ Puts (before line) at (b ∷ []) r (after line) ⌝ }
@@ -43,7 +52,7 @@ fn digit(n: usize) -> u8
     ensures { λ r. ⌜ r ≡ 48 + n % 10 ⌝ }
 {
     let d = n % 10;
-    48 + d as u8
+    ZERO + d as u8
 }
 
 fn put_digits(line: &mut [u8], at: usize, most: usize, n: usize) -> usize
@@ -62,7 +71,7 @@ fn put_digits(line: &mut [u8], at: usize, most: usize, n: usize) -> usize
 pub fn put_decimal(line: &mut [u8], at: usize, n: usize) -> usize
     ensures { λ r. ⌜ Puts (before line) at (decimal n) r (after line) ⌝ }
 {
-    put_digits(line, at, 5, n)
+    put_digits(line, at, DIGITS, n)
 }
 
 // 'lower hex'
@@ -71,9 +80,9 @@ fn hex_digit(d: u8) -> u8
     ensures { λ r. ⌜ r ≡ hexDigit d ⌝ }
 {
     if d < 10 {
-        return 48 + d;
+        return ZERO + d;
     }
-    87 + d
+    BELOW_A + d
 }
 
 // 'bytes given in lower hex or `-`'

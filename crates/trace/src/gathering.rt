@@ -5,6 +5,7 @@ ghost use Prim.Native.Nat.{_<_, _≤_};
 ghost use lib.ListN.{length, set};
 ghost use Rattle.rules.specs.Lent.{before, after};
 ghost use Rattle.trace.specs.gathering.Contract.{isOpen, kindOf, endOf, Gathers};
+use super::stream::Stream;
 
 // Is a record of which so many bytes have come not yet complete?
 pub fn is_open(kept: &[u8], have: usize) -> bool
@@ -12,7 +13,7 @@ pub fn is_open(kept: &[u8], have: usize) -> bool
     ensures { λ r. ⌜ r ≡ isOpen (before kept) have ⌝ }
     ensures { λ r. ⌜ (r ≡ true → have < 65539) ⌝ }
 {
-    let size = 4 + records::two(kept[0], kept[1]);
+    let size = Stream::HEADER + records::two(kept[0], kept[1]);
     have < size
 }
 
@@ -62,5 +63,5 @@ pub fn end_of(kept: &[u8]) -> usize
     requires { ⌜ 4 ≤ length (now kept) ⌝ }
     ensures { λ r. ⌜ r ≡ endOf (before kept) ⌝ }
 {
-    4 + queue::least(records::two(kept[0], kept[1]), 513)
+    Stream::HEADER + queue::least(records::two(kept[0], kept[1]), Stream::BODY)
 }

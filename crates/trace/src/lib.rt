@@ -15,6 +15,9 @@ use rules::Call;
 use rules::Outcome;
 use rules::Refusal;
 
+// No call is lent more bytes than a transmit.
+const LENT: usize = records::MOST_SENT;
+
 // The port after a record, the answer, and how many bytes were handed out into the lent buffer.
 pub struct Carried {
     pub port: Port,
@@ -109,7 +112,7 @@ pub fn record(
 ) -> Recorded
     ensures { λ r. ⌜ RecordsLent p bytes marks out index kind body line r ⌝ }
 {
-    let mut lent = [0u8; 2048];
+    let mut lent = [0u8; LENT];
     let c = carry(p, bytes, marks, out, kind, body, &mut lent);
     let port = c.port;
     let answer = c.answer;

@@ -30,10 +30,19 @@ pub struct Taken {
 }
 
 impl Stream {
-    // header and body as far as they are kept: a body of more than 512 bytes is malformed whatever it holds
-    pub const KEPT: usize = 517;
+    // 'two-byte length of the body, two-byte kind'
+    pub const HEADER: usize = 4;
 
-    // no line is longer
+    // as much of a body as is kept: one of more than 512 bytes is malformed whatever it holds
+    pub const BODY: usize = records::MOST_WRITTEN + 1;
+
+    // header and body as far as they are kept
+    pub const KEPT: usize = Stream::HEADER + Stream::BODY;
+
+    // 'At most 65,535 records are read'
+    pub const MOST: usize = 65535;
+
+    // no line is longer: three numbers of 5 digits, `allowed`, 2,048 bytes in hex, four spaces, a newline
     pub const LINE: usize = 4123;
 
     pub fn start() -> Stream
@@ -72,7 +81,7 @@ pub fn take_in(g: Stream, kept: &mut [u8], piece: &[u8], line: &mut [u8]) -> Tak
             complete: false,
         };
     }
-    if g.index >= 65535 { // 'At most 65,535 records are read'
+    if g.index >= Stream::MOST { // 'At most 65,535 records are read'
         let k = lines::put_full(line, g.index);
         return Taken {
             used: piece.len(),
@@ -105,7 +114,7 @@ fn last(g: Stream, kept: &[u8], line: &mut [u8]) -> usize
     if gathering::begun(kept, g.have) == 0 {
         return 0;
     }
-    if g.index >= 65535 { // 'one more, even cut, prints its index and `full`'
+    if g.index >= Stream::MOST { // 'one more, even cut, prints its index and `full`'
         return lines::put_full(line, g.index);
     }
     lines::put_cut(line, g.index)
@@ -143,7 +152,7 @@ fn advance(
     if t.complete {
         let kind = gathering::kind_of(kept);
         let to = gathering::end_of(kept);
-        let r = super::record(port, bytes, marks, out, g.index, kind, &kept[4..to], line);
+        let r = super::record(port, bytes, marks, out, g.index, kind, &kept[Stream::HEADER..to], line);
         let after = r.port;
         return Fed {
             stream: Stream {
