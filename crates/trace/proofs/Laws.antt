@@ -39,6 +39,7 @@ use Rattle.trace.specs.declared.Recorded.{Recorded}
 use Rattle.trace.specs.declared.Carried.{Carried}
 use Rattle.rules.specs.asking.Asking.{Asked}
 use Rattle.rules.proofs.asking.Laws.{asked-of}
+use Rattle.trace.specs.Numbers.{mostLent}
 
 ---- load
 
@@ -164,7 +165,7 @@ module _ (p : Port) (bs ms os : List ℕ) (kind : ℕ) (body : List ℕ) (d : De
     as-long : n ≡ length (lentOf call n body)
     as-long = ap lentBy (sym e ∙ h .tells ∙ ap told (sym asked))
 
-    pub at-most : n ≤ 2048
+    pub at-most : n ≤ mostLent
     at-most =
         let bounds : Asked kind body (asks call (lentOf call n body)) = subst (Asked kind body) (sym asked) (asked-of kind body) in
         omega (arith, as-long, bounds .few)
@@ -184,7 +185,7 @@ module _ (p : Port) (bs ms os : List ℕ) (kind : ℕ) (body : List ℕ) (d : De
               (subst (λ (y : Answer). Exact p (held bs ms os (take n m)) call (record { port = r .port; answer = y }) (held bs′ ms′ os′ l′)) ea x);
         })
 
-    pub carried : (l m l′ bs′ ms′ os′ : List ℕ) (r : Answered) (g : ℕ) → 2048 ≤ length l → length m ≡ length l
+    pub carried : (l m l′ bs′ ms′ os′ : List ℕ) (r : Answered) (g : ℕ) → mostLent ≤ length l → length m ≡ length l
         → m ≡ take (min n (min (length body) (length l))) body ++ drop (min n (min (length body) (length l))) l
         → Stepped p (held bs ms os (take n m)) call r (held bs′ ms′ os′ l′) → g ≡ givenOf call (r .answer .count)
         → Carries p bs ms os kind body l (record { port = r .port; answer = r .answer; given = g }) bs′ ms′ os′ (l′ ++ drop n m)
@@ -214,7 +215,7 @@ module _ (p : Port) (bs ms os : List ℕ) (kind : ℕ) (body : List ℕ) (d : De
 ---- record
 
 pub recorded : (p : Port) (bs ms os : List ℕ) (index kind : ℕ) (body l l′ : List ℕ) (c : Carried) (k : ℕ) (bs′ ms′ os′ lent′ : List ℕ)
-    → Carries p bs ms os kind body (replicate 2048 0) c bs′ ms′ os′ lent′ → Prints l (lineOf index kind (c .answer) (take (c .given) lent′)) k l′
+    → Carries p bs ms os kind body (replicate mostLent 0) c bs′ ms′ os′ lent′ → Prints l (lineOf index kind (c .answer) (take (c .given) lent′)) k l′
     → Records p bs ms os index kind body l (record { port = c .port; length = k }) bs′ ms′ os′ l′
 recorded p bs ms os index kind body l l′ c k bs′ ms′ os′ lent′ h t =
     record {
@@ -246,7 +247,7 @@ pub one-record : (p : Port) (bs ms os : List ℕ) (index kind : ℕ) (body l : L
     → (r ≡ q) × (bs′ ≡ cs) × (ms′ ≡ ns) × (os′ ≡ qs) × (l′ ≡ k)
 one-record p bs ms os index kind body l r q bs′ ms′ os′ l′ cs ns qs k h j =
     let s =
-    one-exactly (decode kind body) p bs ms os (replicate 2048 0) body (answeredOf p bs ms os kind body .1 .answer) (r .port) (q .port) bs′ ms′ os′ cs ns qs
+    one-exactly (decode kind body) p bs ms os (replicate mostLent 0) body (answeredOf p bs ms os kind body .1 .answer) (r .port) (q .port) bs′ ms′ os′ cs ns qs
     (h .exact) (j .exact) in
     let t = prints-unique (r .length) (q .length) l′ k (h .line) (j .line) in
     (ap₂ (λ (y : Port) (n : ℕ). record { port = y; length = n }) (s .0) (t .0), s .1, s .2, s .3, t .1)

@@ -5,13 +5,14 @@ ghost use Prim.Native.Nat.{_<_, _≤_};
 ghost use lib.ListN.{length, set};
 ghost use Rattle.rules.specs.Lent.{before, after};
 ghost use Rattle.trace.specs.gathering.Contract.{isOpen, kindOf, endOf, Gathers};
+ghost use Rattle.trace.specs.Numbers.{header, mostKept, mostSize};
 use super::stream::Stream;
 
 // Is a record of which so many bytes have come not yet complete?
 pub fn is_open(kept: &[u8], have: usize) -> bool
-    requires { ⌜ 4 ≤ length (now kept) ⌝ }
+    requires { ⌜ header ≤ length (now kept) ⌝ }
     ensures { λ r. ⌜ r ≡ isOpen (before kept) have ⌝ }
-    ensures { λ r. ⌜ (r ≡ true → have < 65539) ⌝ }
+    ensures { λ r. ⌜ (r ≡ true → have < mostSize) ⌝ }
 {
     let size = Stream::HEADER + records::two(kept[0], kept[1]);
     have < size
@@ -19,9 +20,9 @@ pub fn is_open(kept: &[u8], have: usize) -> bool
 
 // how many bytes of an incomplete record have come
 pub fn begun(kept: &[u8], have: usize) -> usize
-    requires { ⌜ 4 ≤ length (now kept) ⌝ }
+    requires { ⌜ header ≤ length (now kept) ⌝ }
     ensures { λ r. ⌜ r ≡ cond (isOpen (before kept) have) have 0 ⌝ }
-    ensures { λ r. ⌜ r < 65539 ⌝ }
+    ensures { λ r. ⌜ r < mostSize ⌝ }
 {
     if is_open(kept, have) { have } else { 0 }
 }
@@ -37,9 +38,9 @@ fn keep(kept: &mut [u8], at: usize, b: u8)
 
 // bytes of the piece until the record is complete or the piece at its end; how many
 pub fn gather(kept: &mut [u8], have: usize, piece: &[u8]) -> usize
-    requires { ⌜ length (now kept) ≡ 517 ⌝ }
+    requires { ⌜ length (now kept) ≡ mostKept ⌝ }
     requires { ⌜ isOpen (now kept) have ≡ true ⌝ }
-    requires { ⌜ have < 65539 ⌝ }
+    requires { ⌜ have < mostSize ⌝ }
     ensures { λ r. ⌜ Gathers (before kept) have (before piece) r (after kept) ⌝ }
 {
     let mut at = 0;
@@ -52,7 +53,7 @@ pub fn gather(kept: &mut [u8], have: usize, piece: &[u8]) -> usize
 
 // the kind of a complete record
 pub fn kind_of(kept: &[u8]) -> usize
-    requires { ⌜ 4 ≤ length (now kept) ⌝ }
+    requires { ⌜ header ≤ length (now kept) ⌝ }
     ensures { λ r. ⌜ r ≡ kindOf (before kept) ⌝ }
 {
     records::two(kept[2], kept[3])
@@ -60,7 +61,7 @@ pub fn kind_of(kept: &[u8]) -> usize
 
 // where its body ends, as far as it is kept
 pub fn end_of(kept: &[u8]) -> usize
-    requires { ⌜ 4 ≤ length (now kept) ⌝ }
+    requires { ⌜ header ≤ length (now kept) ⌝ }
     ensures { λ r. ⌜ r ≡ endOf (before kept) ⌝ }
 {
     Stream::HEADER + queue::least(records::two(kept[0], kept[1]), Stream::BODY)

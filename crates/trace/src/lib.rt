@@ -7,6 +7,7 @@ ghost use Prim.Native.Nat.{_≤_};
 ghost use lib.ListN.{length};
 ghost use Rattle.rules.specs.Lent.{before, after};
 ghost use Rattle.trace.specs.Contract.{givenOf, CarriesLent, RecordsLent, loaded};
+ghost use Rattle.trace.specs.Numbers.{mostLent};
 use port::Port;
 use records::Decoded;
 use records::lines;
@@ -73,7 +74,7 @@ fn carry(
     body: &[u8],
     lent: &mut [u8],
 ) -> Carried
-    requires { ⌜ 2048 ≤ length (now lent) ⌝ }
+    requires { ⌜ mostLent ≤ length (now lent) ⌝ }
     ensures { λ r. ⌜ CarriesLent p bytes marks out kind body lent r ⌝ }
 {
     let d = records::decode(kind, body);

@@ -7,6 +7,7 @@ ghost use Rattle.rules.specs.Lent.{before, after};
 ghost use Rattle.records.specs.lines.Puts.{Prints};
 ghost use Rattle.trace.specs.stream.Contract.{beginning, left, TakesIn, FeedsLent};
 ghost use Rattle.rules.specs.Trace.{trace};
+ghost use Rattle.trace.specs.Numbers.{mostKept};
 use super::gathering;
 use port::Port;
 use records::lines;
@@ -60,7 +61,7 @@ impl Stream {
 
 // the next bytes of the input, up to the end of a record
 pub fn take_in(g: Stream, kept: &mut [u8], piece: &[u8], line: &mut [u8]) -> Taken
-    requires { ⌜ length (now kept) ≡ 517 ⌝ }
+    requires { ⌜ length (now kept) ≡ mostKept ⌝ }
     ensures { λ r. ⌜ TakesIn g (before kept) (before piece) (before line) r (after kept) (after line) ⌝ }
 {
     if g.done {
@@ -105,7 +106,7 @@ pub fn take_in(g: Stream, kept: &mut [u8], piece: &[u8], line: &mut [u8]) -> Tak
 }
 
 fn last(g: Stream, kept: &[u8], line: &mut [u8]) -> usize
-    requires { ⌜ length (now kept) ≡ 517 ⌝ }
+    requires { ⌜ length (now kept) ≡ mostKept ⌝ }
     ensures { λ r. ⌜ Prints (before line) (left g (before kept)) r (after line) ⌝ }
 {
     if g.done {
@@ -123,7 +124,7 @@ fn last(g: Stream, kept: &[u8], line: &mut [u8]) -> usize
 // the input is at its end: 'A cut last record prints its index and `cut`.' The second clause says what the type of kept says.
 pub fn finish(g: Stream, kept: &[u8; Stream::KEPT], line: &mut [u8]) -> usize
     ensures { λ r. ⌜ Prints (before line) (left g (before kept)) r (after line) ⌝ }
-    ensures { λ _. ⌜ length (before kept) ≡ 517 ⌝ }
+    ensures { λ _. ⌜ length (before kept) ≡ mostKept ⌝ }
 {
     last(g, kept, line)
 }
@@ -144,7 +145,7 @@ fn advance(
     piece: &[u8],
     line: &mut [u8],
 ) -> Fed
-    requires { ⌜ length (now kept) ≡ 517 ⌝ }
+    requires { ⌜ length (now kept) ≡ mostKept ⌝ }
     ensures { λ r. ⌜ FeedsLent g bytes marks out kept piece line r ⌝ }
 {
     let t = take_in(g, kept, piece, line);
@@ -152,7 +153,16 @@ fn advance(
     if t.complete {
         let kind = gathering::kind_of(kept);
         let to = gathering::end_of(kept);
-        let r = super::record(port, bytes, marks, out, g.index, kind, &kept[Stream::HEADER..to], line);
+        let r = super::record(
+            port,
+            bytes,
+            marks,
+            out,
+            g.index,
+            kind,
+            &kept[Stream::HEADER..to],
+            line,
+        );
         let after = r.port;
         return Fed {
             stream: Stream {

@@ -20,6 +20,7 @@ use Rattle.trace.specs.declared.stream.Taken.{Taken}
 use Rattle.trace.proofs.stream.Laws.{more}
 use Rattle.trace.proofs.stream.Lengths.{line-at-most}
 use Rattle.trace.proofs.gathering.Keeping.{pending-none, whole-record}
+use Rattle.trace.specs.Numbers.{header, mostBody, mostRecords}
 
 -- a line has bytes: it ends with a newline
 line-some : (i k : ℕ) (r : Reply) → line i k r ≡ [] → ⊥
@@ -47,7 +48,7 @@ module _ (g : Stream) (bs ms os kept piece l : List ℕ) (t : Taken) (kept′ l�
       }
 
   pub feeds-record : (kind to : ℕ) (r : Recorded) (bs′ ms′ os′ l′ : List ℕ) → t .complete ≡ true → kind ≡ kindOf kept′ → to ≡ endOf kept′
-      → Records (g .port) bs ms os (g .index) kind (take (to - 4) (drop 4 kept′)) l₁ r bs′ ms′ os′ l′
+      → Records (g .port) bs ms os (g .index) kind (take (to - header) (drop header kept′)) l₁ r bs′ ms′ os′ l′
       → Feeds g bs ms os kept piece l (record {
         stream = record { port = r .port; index = g .index + 1; have = 0; done = false };
         used = t .used;
@@ -69,20 +70,20 @@ module _ (g : Stream) (bs ms os kept piece l : List ℕ) (t : Taken) (kept′ l�
             w .along bs ms os rest
             ∙ ap (λ (j : ℕ). traceFrom (sizes (g .port) bs ms os) j (g .index) (get (g .port) bs ms os)
             (come kept′ (sizeOf kept′) ++ (drop (t .used) piece ++ rest))) (more g bs ms os kept (w .below))
-            ∙ whole-record (sizes (g .port) bs ms os) (65535 - (g .index + 1)) (g .index) (get (g .port) bs ms os) (drop (t .used) piece ++ rest) kept′
+            ∙ whole-record (sizes (g .port) bs ms os) (mostRecords - (g .index + 1)) (g .index) (get (g .port) bs ms os) (drop (t .used) piece ++ rest) kept′
             (w .long)
-            ∙ ap₂ (λ (y : Sizes) (x : State). line (g .index) (kindOf kept′) (v .1) ++ traceFrom y (65535 - (g .index + 1)) (suc (g .index)) x
+            ∙ ap₂ (λ (y : Sizes) (x : State). line (g .index) (kindOf kept′) (v .1) ++ traceFrom y (mostRecords - (g .index + 1)) (suc (g .index)) x
             (drop (t .used) piece ++ rest)) (sym (hr .now .sizes)) (sym (hr .now .state))
-            ∙ ap₂ (λ (j : ℕ) (y : List ℕ). line (g .index) (kindOf kept′) (v .1) ++ traceFrom (sizes (r .port) bs′ ms′ os′) (65535 - (g .index + 1)) j
+            ∙ ap₂ (λ (j : ℕ) (y : List ℕ). line (g .index) (kindOf kept′) (v .1) ++ traceFrom (sizes (r .port) bs′ ms′ os′) (mostRecords - (g .index + 1)) j
             (get (r .port) bs′ ms′ os′) (y ++ (drop (t .used) piece ++ rest)))
             (sym (add-one (g .index))) (sym (pending-none kept′));
         exact = inr hr;
       }
     where
-      record-as : l₁ ≡ l → kind ≡ kindOf kept′ → to - 4 ≡ min (two (getD kept′ 0 0) (getD kept′ 1 0)) 513
-          → Records (g .port) bs ms os (g .index) kind (take (to - 4) (drop 4 kept′)) l₁ r bs′ ms′ os′ l′
+      record-as : l₁ ≡ l → kind ≡ kindOf kept′ → to - header ≡ min (two (getD kept′ 0 0) (getD kept′ 1 0)) mostBody
+          → Records (g .port) bs ms os (g .index) kind (take (to - header) (drop header kept′)) l₁ r bs′ ms′ os′ l′
           → Records (g .port) bs ms os (g .index) (kindOf kept′) (bodyOf kept′) l r bs′ ms′ os′ l′
       record-as el e en x =
           subst (λ (y : List ℕ). Records (g .port) bs ms os (g .index) (kindOf kept′) (bodyOf kept′) y r bs′ ms′ os′ l′) el
           (subst (λ (k : ℕ). Records (g .port) bs ms os (g .index) k (bodyOf kept′) l₁ r bs′ ms′ os′ l′) e
-          (subst (λ (n : ℕ). Records (g .port) bs ms os (g .index) kind (take n (drop 4 kept′)) l₁ r bs′ ms′ os′ l′) en x))
+          (subst (λ (n : ℕ). Records (g .port) bs ms os (g .index) kind (take n (drop header kept′)) l₁ r bs′ ms′ os′ l′) en x))

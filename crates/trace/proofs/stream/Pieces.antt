@@ -21,6 +21,7 @@ use Rattle.trace.specs.stream.Pieces.{joined, Writes, feeds, used, finis
 use Rattle.trace.proofs.stream.Lengths.{cut-at-most, full-at-most}
 use Rattle.trace.proofs.gathering.Keeping.{pending-none}
 use Rattle.trace.proofs.stream.Laws.{none-there, at-end}
+use Rattle.trace.specs.Numbers.{mostLine, mostRecords}
 
 -- a buffer with room for it holds the whole text
 written : (l t : List ℕ) (r : ℕ) (l′ : List ℕ) → length t ≤ length l → Prints l t r l′ → take r l′ ≡ t
@@ -28,10 +29,10 @@ written l t r l′ le h =
     let n : length t ≡ r = omega (arith, h .count) in
     ap (take r) (h .buffer ∙ ap (λ (y : List ℕ). y ++ drop (length t) l) (take-all (length l) t le)) ∙ take-at t (drop (length t) l) r n
 
-left-at-most : (g : Stream) (kept : List ℕ) → length (left g kept) ≤ 4123
-left-at-most g kept = by (g .done || none-there g kept) (leb 65535 (g .index))
+left-at-most : (g : Stream) (kept : List ℕ) → length (left g kept) ≤ mostLine
+left-at-most g kept = by (g .done || none-there g kept) (leb mostRecords (g .index))
   where
-    by : (a b : Bool) → length (cond a [] (cond b (fullLine (g .index)) (cutLine (g .index)))) ≤ 4123
+    by : (a b : Bool) → length (cond a [] (cond b (fullLine (g .index)) (cutLine (g .index)))) ≤ mostLine
     by true b = omega arith
     by false true = full-at-most (g .index)
     by false false = cut-at-most (g .index)
@@ -50,8 +51,8 @@ pub future-begins : (bs ms os kept rest : List ℕ) → length bs ≡ 1024 → l
 future-begins bs ms os kept rest eb em eo =
     let z : sizes port.fresh bs ms os ≡ base =
     ap₂ (λ (a b : ℕ). record { line = 254; input = a; output = b }) (ap₂ min eb em) eo in
-    ap (λ (y : List ℕ). traceFrom (sizes port.fresh bs ms os) 65535 0 (get port.fresh bs ms os) (y ++ rest)) (pending-none kept)
-    ∙ ap₂ (λ (y : Sizes) (x : State). traceFrom y 65535 0 x rest) z (fresh-state bs ms os)
+    ap (λ (y : List ℕ). traceFrom (sizes port.fresh bs ms os) mostRecords 0 (get port.fresh bs ms os) (y ++ rest)) (pending-none kept)
+    ∙ ap₂ (λ (y : Sizes) (x : State). traceFrom y mostRecords 0 x rest) z (fresh-state bs ms os)
 
 pub writes-the-whole : WritesTheWhole
 writes-the-whole pieces bs ms os kept t eb em eo w = writes-future w ∙ future-begins bs ms os kept (joined pieces) eb em eo

@@ -17,6 +17,7 @@ use Rattle.trace.specs.stream.Contract.{future, TakesIn}
 use Rattle.trace.specs.declared.stream.Stream.{Stream}
 use Rattle.trace.proofs.stream.Laws.{prints-none, going, over}
 use Rattle.trace.proofs.stream.Lengths.{full-at-most}
+use Rattle.trace.specs.Numbers.{mostRecords}
 
 module _ (g : Stream) (kept piece l : List ℕ) where
   pub takes-done : g .done ≡ true
@@ -51,7 +52,7 @@ module _ (g : Stream) (kept piece l : List ℕ) where
         completed = λ f. absurd (true≢false (sym f));
       }
 
-  pub takes-full : (k : ℕ) (l′ : List ℕ) → g .done ≡ false → (length piece ≡ 0 → ⊥) → 65535 ≤ g .index → Prints l (fullLine (g .index)) k l′
+  pub takes-full : (k : ℕ) (l′ : List ℕ) → g .done ≡ false → (length piece ≡ 0 → ⊥) → mostRecords ≤ g .index → Prints l (fullLine (g .index)) k l′
       → TakesIn g kept piece l (record { used = length piece; have = 0; done = true; length = k; complete = false }) kept l′
   takes-full k l′ d some le h =
       record {
@@ -64,7 +65,7 @@ module _ (g : Stream) (kept piece l : List ℕ) where
           silent = λ f. refl;
           along = λ bs ms os rest.
               going g bs ms os kept (piece ++ rest) d
-              ∙ trace-full (sizes (g .port) bs ms os) (g .index) (get (g .port) bs ms os) (65535 - g .index) (pending kept (g .have) ++ (piece ++ rest))
+              ∙ trace-full (sizes (g .port) bs ms os) (g .index) (get (g .port) bs ms os) (mostRecords - g .index) (pending kept (g .have) ++ (piece ++ rest))
               (omega arith)
               (λ f. some (omega (arith, f, length-append (pending kept (g .have)) (piece ++ rest), length-append piece rest)))
               ∙ sym (append-nil (fullLine (g .index)));
@@ -73,15 +74,15 @@ module _ (g : Stream) (kept piece l : List ℕ) where
       }
 
   -- bytes of the piece are kept behind those of the record that has begun
-  module _ (n u : ℕ) (kept′ : List ℕ) (d : g .done ≡ false) (lt : g .index < 65535) (en : n ≡ cond (isOpen kept (g .have)) (g .have) 0)
+  module _ (n u : ℕ) (kept′ : List ℕ) (d : g .done ≡ false) (lt : g .index < mostRecords) (en : n ≡ cond (isOpen kept (g .have)) (g .have) 0)
       (h : Gathers kept n piece u kept′) where
     gathered : (bs ms os rest : List ℕ) → future g bs ms os kept (piece ++ rest)
-        ≡ traceFrom (sizes (g .port) bs ms os) (65535 - g .index) (g .index) (get (g .port) bs ms os) (come kept′ (n + u) ++ (drop u piece ++ rest))
+        ≡ traceFrom (sizes (g .port) bs ms os) (mostRecords - g .index) (g .index) (get (g .port) bs ms os) (come kept′ (n + u) ++ (drop u piece ++ rest))
     gathered bs ms os rest =
         going g bs ms os kept (piece ++ rest) d
-        ∙ ap (λ (y : List ℕ). traceFrom (sizes (g .port) bs ms os) (65535 - g .index) (g .index) (get (g .port) bs ms os) (y ++ (piece ++ rest)))
+        ∙ ap (λ (y : List ℕ). traceFrom (sizes (g .port) bs ms os) (mostRecords - g .index) (g .index) (get (g .port) bs ms os) (y ++ (piece ++ rest)))
         (begun-pending kept (g .have) n en)
-        ∙ h .same (sizes (g .port) bs ms os) (65535 - g .index) (g .index) (get (g .port) bs ms os) rest
+        ∙ h .same (sizes (g .port) bs ms os) (mostRecords - g .index) (g .index) (get (g .port) bs ms os) rest
 
     pub takes-gathered : (t : Bool) → t ≡ isOpen kept′ (n + u)
         → TakesIn g kept piece l (record { used = u; have = n + u; done = false; length = 0; complete = not t }) kept′ l
@@ -96,7 +97,7 @@ module _ (g : Stream) (kept piece l : List ℕ) where
             silent = λ f. h .all (sym o);
             along = λ bs ms os rest.
                 gathered bs ms os rest
-                ∙ ap (λ (y : List ℕ). traceFrom (sizes (g .port) bs ms os) (65535 - g .index) (g .index) (get (g .port) bs ms os)
+                ∙ ap (λ (y : List ℕ). traceFrom (sizes (g .port) bs ms os) (mostRecords - g .index) (g .index) (get (g .port) bs ms os)
                 (y ++ (drop u piece ++ rest)))
                 (ap (λ (t : Bool). cond t (come kept′ (n + u)) []) o);
           };
@@ -114,7 +115,7 @@ module _ (g : Stream) (kept piece l : List ℕ) where
             line = refl;
             along = λ bs ms os rest.
                 gathered bs ms os rest
-                ∙ ap (λ (k : ℕ). traceFrom (sizes (g .port) bs ms os) (65535 - g .index) (g .index) (get (g .port) bs ms os)
+                ∙ ap (λ (k : ℕ). traceFrom (sizes (g .port) bs ms os) (mostRecords - g .index) (g .index) (get (g .port) bs ms os)
                 (come kept′ k ++ (drop u piece ++ rest))) size;
           };
         }

@@ -16,6 +16,7 @@ use Rattle.trace.specs.declared.stream.Fed.{Fed}
 use Rattle.trace.specs.stream.Contract.{future, left, beginning, Feeds}
 use Rattle.trace.proofs.stream.Laws.{at-end}
 use Rattle.trace.proofs.stream.Pieces.{future-begins}
+use Rattle.trace.specs.Numbers.{mostKept}
 
 ---- A line more in the buffer
 
@@ -168,7 +169,7 @@ module _ (input d₀ bs ms os kept dst : List ℕ) (s : Stream) (at w : ℕ) (h 
         omega (arith, g .further (omega (arith, length-drop at input)), g .used, length-drop at input),
       )
 
-  pub running-done : (k : ℕ) (m : List ℕ) → length kept ≡ 517 → length input ≤ at → Prints (take (length dst - w) (drop w dst)) (left s kept) k m
+  pub running-done : (k : ℕ) (m : List ℕ) → length kept ≡ mostKept → length input ≤ at → Prints (take (length dst - w) (drop w dst)) (left s kept) k m
       → Prints d₀ (trace input) (w + k) (putMid w (length dst - w) dst m)
   running-done k m e le p =
       let b = behind (left s kept) k m (from-place w dst running-room (left s kept) k m p) in

@@ -17,18 +17,19 @@ use Rattle.rules.specs.Lent.{Lent, before, after}
 use Rattle.port.specs.declared.Port.{Port}
 use Rattle.trace.specs.Contract.{Records}
 use Rattle.trace.specs.declared.stream.Fed.{Fed}
+use Rattle.trace.specs.Numbers.{mostKept, mostLine, mostRecords}
 
 -- what is printed from here on, the rest of the input being as it is; 'At most 65,535 records are read'
 abbrev pub future : Stream → List ℕ → List ℕ → List ℕ → List ℕ → List ℕ → List ℕ
 future g bs ms os kept rest =
     cond (g .done) []
-    (traceFrom (sizes (g .port) bs ms os) (65535 - g .index) (g .index) (get (g .port) bs ms os) (pending kept (g .have) ++ rest))
+    (traceFrom (sizes (g .port) bs ms os) (mostRecords - g .index) (g .index) (get (g .port) bs ms os) (pending kept (g .have) ++ rest))
 
 -- what is printed at the end of the input: 'A cut last record prints its index and `cut`'; 'one more, even cut, prints its index and `full`'
 abbrev pub left : Stream → List ℕ → List ℕ
 left g kept =
     cond (g .done || eqb (length (pending kept (g .have))) 0) []
-    (cond (leb 65535 (g .index)) (fullLine (g .index)) (cutLine (g .index)))
+    (cond (leb mostRecords (g .index)) (fullLine (g .index)) (cutLine (g .index)))
 
 abbrev pub beginning : Stream
 beginning = record { port = port.fresh; index = 0; have = 0; done = false }
@@ -44,17 +45,17 @@ standing g r = record { port = g .port; index = g .index; have = r .have; done =
 pub record Passed (g : Stream) (kept piece l : List ℕ) (r : Taken) (kept′ l′ : List ℕ) : Type 0 where
   pub text : List ℕ
   pub printed : Prints l text (r .length) l′
-  pub short : length text ≤ 4123
+  pub short : length text ≤ mostLine
   pub silent : text ≡ [] → r .used ≡ length piece
   pub along : (bs ms os rest : List ℕ) → future g bs ms os kept (piece ++ rest) ≡ text ++ future (standing g r) bs ms os kept′ (drop (r .used) piece ++ rest)
 
 -- A record is complete and kept: whatever comes after, it stands before that in what is still to be printed.
 pub record Completed (g : Stream) (kept piece l : List ℕ) (r : Taken) (kept′ l′ : List ℕ) : Type 0 where
-  pub below : g .index < 65535
-  pub long : length kept′ ≡ 517
+  pub below : g .index < mostRecords
+  pub long : length kept′ ≡ mostKept
   pub line : l′ ≡ l
   pub along : (bs ms os rest : List ℕ) → future g bs ms os kept (piece ++ rest)
-      ≡ traceFrom (sizes (g .port) bs ms os) (65535 - g .index) (g .index) (get (g .port) bs ms os)
+      ≡ traceFrom (sizes (g .port) bs ms os) (mostRecords - g .index) (g .index) (get (g .port) bs ms os)
       (come kept′ (sizeOf kept′) ++ (drop (r .used) piece ++ rest))
 
 -- Of the piece so many bytes are used, at least one if there is one.
@@ -79,7 +80,7 @@ pub record Untouched (p : Port) (bs ms os : List ℕ) (q : Port) (bs′ ms′ os
 pub record Feeds (g : Stream) (bs ms os kept piece l : List ℕ) (r : Fed) (bs′ ms′ os′ kept′ l′ : List ℕ) : Type 0 where
   pub text : List ℕ
   pub printed : Prints l text (r .length) l′
-  pub short : length text ≤ 4123
+  pub short : length text ≤ mostLine
   pub used : r .used ≤ length piece
   pub further : 0 < length piece → 0 < r .used
   pub silent : text ≡ [] → r .used ≡ length piece

@@ -9,6 +9,7 @@ use Rattle.records.specs.lines.Puts.{Prints}
 use Rattle.trace.specs.declared.stream.Stream.{Stream}
 use Rattle.trace.specs.declared.stream.Fed.{Fed}
 use Rattle.trace.specs.stream.Contract.{future, left, beginning, Feeds}
+use Rattle.trace.specs.Numbers.{mostKept, mostLine}
 
 -- the pieces, one after the other
 abbrev pub joined : List (List ℕ) → List ℕ
@@ -19,11 +20,11 @@ joined (p ∷ ps) = p ++ joined ps
 -- are written one after the other. Each is put into a buffer that has room for any line.
 pub data Writes : List (List ℕ) → Stream → List ℕ → List ℕ → List ℕ → List ℕ → List ℕ → Type 0 where
   feeds : {g : Stream} {bs ms os kept p l : List ℕ} {ps : List (List ℕ)} {r : Fed} {bs′ ms′ os′ kept′ l′ t : List ℕ}
-      → 4123 ≤ length l → Feeds g bs ms os kept p l r bs′ ms′ os′ kept′ l′ → Writes (drop (r .used) p ∷ ps) (r .stream) bs′ ms′ os′ kept′ t
+      → mostLine ≤ length l → Feeds g bs ms os kept p l r bs′ ms′ os′ kept′ l′ → Writes (drop (r .used) p ∷ ps) (r .stream) bs′ ms′ os′ kept′ t
       → Writes (p ∷ ps) g bs ms os kept (take (r .length) l′ ++ t)
   used : {g : Stream} {bs ms os kept : List ℕ} {ps : List (List ℕ)} {t : List ℕ} → Writes ps g bs ms os kept t → Writes ([] ∷ ps) g bs ms os kept t
   finishes : {g : Stream} {bs ms os kept l : List ℕ} {r : ℕ} {l′ : List ℕ}
-      → length kept ≡ 517 → 4123 ≤ length l → Prints l (left g kept) r l′ → Writes [] g bs ms os kept (take r l′)
+      → length kept ≡ mostKept → mostLine ≤ length l → Prints l (left g kept) r l′ → Writes [] g bs ms os kept (take r l′)
 
 -- Who begins with a port of document 01's sizes writes the lines of the whole input.
 abbrev pub WritesTheWhole : Type 0

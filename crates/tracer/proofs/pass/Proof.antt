@@ -1,5 +1,6 @@
 -- `tracer::pass` meets its contract. Assumes nothing.
 use Rattle.tracer.proofs.Laws.{fed-on, fed-further}
+use Rattle.trace.specs.Numbers.{mostLine}
 use Rattle.trace.proofs.stream.Pieces.{Passing, passing-begins, passing-next, passing-done}
 use lib.Seq.{length-take-le}
 use lib.ListN.{length, drop, length-drop, length-take}
@@ -12,7 +13,7 @@ use Rattle.tracer.proofs.pass.Tie as tie
 
 abbrev Inv-loop : tie.InvT-loop
 Inv-loop bytes₀ marks₀ out₀ kept₀ piece line₀ s₀ at₀ bytes marks out kept line s at =
-    Passing s₀ bytes₀ marks₀ out₀ kept₀ piece at s bytes marks out kept × (length line ≡ 4123) × (length bytes ≡ length bytes₀)
+    Passing s₀ bytes₀ marks₀ out₀ kept₀ piece at s bytes marks out kept × (length line ≡ mostLine) × (length bytes ≡ length bytes₀)
     × (length marks ≡ length marks₀) × (length out ≡ length out₀)
 
 abbrev μ-loop : tie.MeasureT-loop
@@ -124,8 +125,8 @@ loop-again c =
     let at-loop = back .before .before .before .before .before .before .before .before .loop in
     let start = further .before in (
       passing-next (start .args .g) (start .args .bytes .now) (start .args .marks .now) (start .args .out .now) (start .args .kept .now)
-          (start .args .piece .now) (at-loop .at) (at-loop .s) (at-loop .bytes) (at-loop .marks) (at-loop .out) (at-loop .kept) (at-loop .inv .0) (at-loop .line)
-          (at-feed .result) (at-feed .last .1 .0) (at-feed .last .1 .1 .0) (at-feed .last .1 .1 .1 .0) (at-feed .last .1 .1 .1 .1 .0)
+          (start .args .piece .now) (at-loop .at) (at-loop .s) (at-loop .bytes) (at-loop .marks) (at-loop .out) (at-loop .kept) (at-loop .inv .0)
+          (at-loop .line) (at-feed .result) (at-feed .last .1 .0) (at-feed .last .1 .1 .0) (at-feed .last .1 .1 .1 .0) (at-feed .last .1 .1 .1 .1 .0)
           (at-feed .last .1 .1 .1 .1 .1 .1 .0) (length-drop (at-loop .at) (start .args .piece .now))
           (fed-on (at-loop .s) (at-loop .bytes) (at-loop .marks) (at-loop .out) (at-loop .kept) (start .args .piece .now) (at-loop .at) (at-loop .line)
           (at-feed .result) (at-feed .last .1 .0) (at-feed .last .1 .1 .0) (at-feed .last .1 .1 .1 .0) (at-feed .last .1 .1 .1 .1 .0)
