@@ -1,5 +1,4 @@
-// Document 01, 'The trace program': the numbers in a record's body.
-// Document 01, 'The trace program': what a record asks for.
+// Document 01, 'The trace program': what a record asks for, by its kind and the numbers in its body.
 pub mod lines;
 
 ghost use mathlib.Core.Path.{_≡_};
@@ -36,12 +35,12 @@ pub const MOST_SENT: usize = 2048;
 // '13 foreground (4-byte group to 2,147,483,647'
 pub const MOST_GROUP: u32 = 2147483647;
 
-// The byte at place i of what a record holds, 0 beyond the end.
-pub fn value(values: &[u8], i: usize) -> u8
-    ensures { λ r. ⌜ r ≡ getD (before values) i 0 ⌝ }
+// The byte at a place of what a record holds, 0 beyond the end.
+fn value(values: &[u8], at: usize) -> u8
+    ensures { λ r. ⌜ r ≡ getD (before values) at 0 ⌝ }
 {
-    if i < values.len() {
-        return values[i];
+    if at < values.len() {
+        return values[at];
     }
     0
 }
@@ -55,7 +54,7 @@ pub fn two(a: u8, b: u8) -> usize
 }
 
 // The 2-byte number at the front of a body.
-pub fn count_of(body: &[u8]) -> usize
+fn count_of(body: &[u8]) -> usize
     ensures { λ r. ⌜ r ≡ count (before body) ⌝ }
 {
     two(value(body, 0), value(body, 1))
@@ -68,7 +67,7 @@ fn four(a: u8, b: u8, c: u8, d: u8) -> u32
 }
 
 // The 4-byte number at the front of a body.
-pub fn number_of(body: &[u8]) -> u32
+fn number_of(body: &[u8]) -> u32
     ensures { λ r. ⌜ r ≡ number (before body) ⌝ }
 {
     let a = value(body, 0);
@@ -87,15 +86,15 @@ pub enum Decoded {
 
 // The 15 values in the table's order, each in its default's place.
 fn in_places(values: &[u8]) -> [u8; VALUES]
-    ensures { λ r. ⌜ ((i : ℕ) → i < 15 → getD r i 0 ≡ getD (before values) i 0) ⌝ }
+    ensures { λ r. ⌜ ((k : ℕ) → k < 15 → getD r k 0 ≡ getD (before values) k 0) ⌝ }
 {
-    let mut v = settings::DEFAULTS;
-    let mut i = 0;
-    while i < VALUES {
-        v[i] = value(values, i);
-        i += 1;
+    let mut table = settings::DEFAULTS;
+    let mut k = 0;
+    while k < VALUES {
+        table[k] = value(values, k);
+        k += 1;
     }
-    v
+    table
 }
 
 // The settings that a record's 32 flags and 15 values mean.
