@@ -9,7 +9,7 @@ ghost use Rattle.trace.specs.Numbers.{header, mostKept, mostSize};
 use super::stream::Stream;
 
 // Is a record of which so many bytes have come not yet complete?
-pub fn is_open(kept: &[u8], have: usize) -> bool
+pub(crate) fn is_open(kept: &[u8], have: usize) -> bool
     requires { ⌜ header ≤ length (now kept) ⌝ }
     ensures { λ r. ⌜ r ≡ isOpen (before kept) have ⌝ }
     ensures { λ r. ⌜ (r ≡ true → have < mostSize) ⌝ }
@@ -19,7 +19,7 @@ pub fn is_open(kept: &[u8], have: usize) -> bool
 }
 
 // how many bytes of an incomplete record have come
-pub fn begun(kept: &[u8], have: usize) -> usize
+pub(crate) fn begun(kept: &[u8], have: usize) -> usize
     requires { ⌜ header ≤ length (now kept) ⌝ }
     ensures { λ r. ⌜ r ≡ cond (isOpen (before kept) have) have 0 ⌝ }
     ensures { λ r. ⌜ r < mostSize ⌝ }
@@ -37,7 +37,7 @@ fn keep(kept: &mut [u8], at: usize, b: u8)
 }
 
 // bytes of the piece until the record is complete or the piece at its end; how many
-pub fn gather(kept: &mut [u8], have: usize, piece: &[u8]) -> usize
+pub(crate) fn gather(kept: &mut [u8], have: usize, piece: &[u8]) -> usize
     requires { ⌜ length (now kept) ≡ mostKept ⌝ }
     requires { ⌜ isOpen (now kept) have ≡ true ⌝ }
     requires { ⌜ have < mostSize ⌝ }
@@ -52,7 +52,7 @@ pub fn gather(kept: &mut [u8], have: usize, piece: &[u8]) -> usize
 }
 
 // the kind of a complete record
-pub fn kind_of(kept: &[u8]) -> usize
+pub(crate) fn kind_of(kept: &[u8]) -> usize
     requires { ⌜ header ≤ length (now kept) ⌝ }
     ensures { λ r. ⌜ r ≡ kindOf (before kept) ⌝ }
 {
@@ -60,7 +60,7 @@ pub fn kind_of(kept: &[u8]) -> usize
 }
 
 // where its body ends, as far as it is kept
-pub fn end_of(kept: &[u8]) -> usize
+pub(crate) fn end_of(kept: &[u8]) -> usize
     requires { ⌜ header ≤ length (now kept) ⌝ }
     ensures { λ r. ⌜ r ≡ endOf (before kept) ⌝ }
 {

@@ -1,5 +1,5 @@
 // Document 01, 'The trace program': one record carried out on a port, and its line.
-pub mod gathering;
+mod gathering;
 pub mod stream;
 
 ghost use mathlib.Core.Path.{_≡_};
@@ -38,10 +38,10 @@ fn load(lent: &mut [u8], body: &[u8], n: usize)
 {
     let most = queue::least(body.len(), lent.len());
     let k = queue::least(n, most);
-    let mut i = 0;
-    while i < k {
-        lent[i] = body[i];
-        i += 1;
+    let mut at = 0;
+    while at < k {
+        lent[at] = body[at];
+        at += 1;
     }
 }
 
@@ -77,8 +77,8 @@ fn carry(
     requires { ⌜ mostLent ≤ length (now lent) ⌝ }
     ensures { λ r. ⌜ CarriesLent p bytes marks out kind body lent r ⌝ }
 {
-    let d = records::decode(kind, body);
-    let Decoded::WellFormed { call, lent: n } = d else {
+    let decoded = records::decode(kind, body);
+    let Decoded::WellFormed { call, lent: n } = decoded else {
         return Carried {
             port: p,
             answer: Answer {
@@ -89,9 +89,9 @@ fn carry(
         };
     };
     load(lent, body, n);
-    let r = discipline::step(p, bytes, marks, out, call, &mut lent[..n]);
-    let port = r.port;
-    let answer = r.answer;
+    let answered = discipline::step(p, bytes, marks, out, call, &mut lent[..n]);
+    let port = answered.port;
+    let answer = answered.answer;
     let given = given_of(call, answer.count);
     Carried {
         port: port,
@@ -114,10 +114,10 @@ pub fn record(
     ensures { λ r. ⌜ RecordsLent p bytes marks out index kind body line r ⌝ }
 {
     let mut lent = [0u8; LENT];
-    let c = carry(p, bytes, marks, out, kind, body, &mut lent);
-    let port = c.port;
-    let answer = c.answer;
-    let given = c.given;
+    let carried = carry(p, bytes, marks, out, kind, body, &mut lent);
+    let port = carried.port;
+    let answer = carried.answer;
+    let given = carried.given;
     let length = lines::put_line(line, index, kind, answer, &lent[..given]);
     Recorded {
         port: port,

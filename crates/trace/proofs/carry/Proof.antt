@@ -10,8 +10,8 @@ use Rattle.trace.proofs.carry.Tie as tie
 decode-requires : tie.Need-decode-requires
 decode-requires c κs = search needs
 
-enum-known-d : tie.Need-enum-known-d
-enum-known-d c = search needs
+enum-known-decoded : tie.Need-enum-known-decoded
+enum-known-decoded c = search needs
 
 enum-told : tie.Need-enum-told
 enum-told c = search needs
@@ -35,7 +35,7 @@ slice-relend-prefix-step : tie.Need-slice-relend-prefix-step
 slice-relend-prefix-step c =
     let back = c .before .before .before .before .before .before .before .before .before .before .before .before in
     let at-load = c .before .before .before .before .before .load in
-    let at-d = c .before .before .before .before .before .before .before .before .d in
+    let at-decoded = c .before .before .before .before .before .before .before .before .decoded in
     let at-decode = c .before .before .before .before .before .before .before .before .before .before .decode in
     let start = back .before .before .before .before in
     let p = (start .args .p) in
@@ -46,7 +46,7 @@ slice-relend-prefix-step c =
     let body = (start .args .body .now) in
     omega (
       arith,
-      (at-most p bs ms os kind body (at-decode .result) (at-decode .ensures) ((at-d .given) .0 .0) ((at-d .given) .0 .1 .0) (at-d .given .1)),
+      (at-most p bs ms os kind body (at-decode .result) (at-decode .ensures) ((at-decoded .given) .0 .0) ((at-decoded .given) .0 .1 .0) (at-decoded .given .1)),
       (at-load .kept) .0,
       (start .pre),
     )
@@ -55,7 +55,7 @@ slice-aggregate-step : tie.Need-slice-aggregate-step
 slice-aggregate-step c =
     let back = c .before .before .before .before .before .before .before .before .before .before .before .before in
     let at-load = c .before .before .before .before .before .before .load in
-    let at-d = c .before .before .before .before .before .before .before .before .before .d in
+    let at-decoded = c .before .before .before .before .before .before .before .before .before .decoded in
     let at-decode = c .before .before .before .before .before .before .before .before .before .before .before .decode in
     let start = back .before .before .before .before .before in
     let p = (start .args .p) in
@@ -64,10 +64,10 @@ slice-aggregate-step c =
     let os = (start .args .out .now) in
     let kind = (start .args .kind) in
     let body = (start .args .body .now) in
-    sym (length-take-le ((at-d .given) .0 .1 .0) (at-load .last .0)
+    sym (length-take-le ((at-decoded .given) .0 .1 .0) (at-load .last .0)
     (omega (
       arith,
-      (at-most p bs ms os kind body (at-decode .result) (at-decode .ensures) ((at-d .given) .0 .0) ((at-d .given) .0 .1 .0) (at-d .given .1)),
+      (at-most p bs ms os kind body (at-decode .result) (at-decode .ensures) ((at-decoded .given) .0 .0) ((at-decoded .given) .0 .1 .0) (at-decoded .given .1)),
       (at-load .kept) .0,
       (start .pre),
     )))
@@ -96,7 +96,7 @@ returns-2 c =
     let further = back .before .before .before .before .before .before .before .before .before .before .before .before in
     let at-step = c .before .before .before .before .before .before .before .before .before .before .before .step in
     let at-load = back .before .before .before .before .before .before .load in
-    let at-d = back .before .before .before .before .before .before .before .before .before .d in
+    let at-decoded = back .before .before .before .before .before .before .before .before .before .decoded in
     let at-decode = back .before .before .before .before .before .before .before .before .before .before .before .decode in
     let start = further .before .before .before .before .before in
     let p = (start .args .p) in
@@ -105,7 +105,7 @@ returns-2 c =
     let os = (start .args .out .now) in
     let kind = (start .args .kind) in
     let body = (start .args .body .now) in
-    carried p bs ms os kind body (at-decode .result) (at-decode .ensures) ((at-d .given) .0 .0) ((at-d .given) .0 .1 .0) (at-d .given .1)
+    carried p bs ms os kind body (at-decode .result) (at-decode .ensures) ((at-decoded .given) .0 .0) ((at-decoded .given) .0 .1 .0) (at-decoded .given .1)
     (start .args .lent .now) (at-load .last .0) (at-step .last .1 .1 .1 .1 .1 .0) (at-step .last .1 .0) (at-step .last .1 .1 .0) (at-step .last .1 .1 .1 .0)
     (at-step .result) (c .given-of .result) (start .pre) ((at-load .kept) .0) (at-load .ensures) (at-step .ensures) (c .given-of .ensures)
 
@@ -114,7 +114,7 @@ carry-spec =
     tie.close
     (tie.spec
     decode-requires
-    enum-known-d
+    enum-known-decoded
     enum-told
     returns
     load-requires

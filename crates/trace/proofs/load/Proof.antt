@@ -7,10 +7,10 @@ use Rattle.trace.proofs.load.Statement.{statement}
 use Rattle.trace.proofs.load.Tie as tie
 
 abbrev Inv-loop : tie.InvT-loop
-Inv-loop lent₀ body n most k i₀ lent i = Loading lent₀ body k i lent
+Inv-loop lent₀ body n most k at₀ lent at = Loading lent₀ body k at lent
 
 abbrev μ-loop : tie.MeasureT-loop
-μ-loop lent₀ body n most k i₀ lent i = k - i
+μ-loop lent₀ body n most k at₀ lent at = k - at
 
 least-requires : tie.Need-least-requires Inv-loop μ-loop
 least-requires c κs = search needs
@@ -37,11 +37,11 @@ slice-write-lent c =
       at-loop .inv .most,
       c .before .loop-test .taken,
       loading-size (start .args .lent .now) (start .args .body .now) (at-least2 .result)
-          (at-loop .i) (at-loop .lent) (at-loop .inv),
+          (at-loop .at) (at-loop .lent) (at-loop .inv),
     )
 
-add-i : tie.Need-add-i Inv-loop μ-loop
-add-i c = omega arith
+add-at : tie.Need-add-at Inv-loop μ-loop
+add-at c = omega arith
 
 loop-less : tie.Need-loop-less Inv-loop μ-loop
 loop-less c = omega arith
@@ -51,21 +51,21 @@ loop-again c =
     let at-loop = c .before .before .loop in
     let at-least2 = c .before .before .before .least2 in
     let start = c .before .before .before .before .before .before .before in
-    loading-next (start .args .lent .now) (start .args .body .now) (at-least2 .result) (at-loop .i) (at-loop .lent) (at-loop .inv)
+    loading-next (start .args .lent .now) (start .args .body .now) (at-least2 .result) (at-loop .at) (at-loop .lent) (at-loop .inv)
     (c .before .loop-test .taken)
 
 same-length : tie.Need-same-length Inv-loop μ-loop
 same-length c =
     let at-least2 = c .before .before .least2 in
     let start = c .before .before .before .before .before .before in
-    loading-size (start .args .lent .now) (start .args .body .now) (at-least2 .result) (c .before .loop .i) (c .before .loop .lent) (c .before .loop .inv)
+    loading-size (start .args .lent .now) (start .args .body .now) (at-least2 .result) (c .before .loop .at) (c .before .loop .lent) (c .before .loop .inv)
 
 returns : tie.Need-returns Inv-loop μ-loop
 returns c =
     let at-least2 = c .before .before .least2 in
     let at-least = c .before .before .before .least in
     let start = c .before .before .before .before .before .before in
-    loaded (start .args .lent .now) (start .args .body .now) (start .args .n) (at-least .result) (at-least2 .result) (c .before .loop .i)
+    loaded (start .args .lent .now) (start .args .body .now) (start .args .n) (at-least .result) (at-least2 .result) (c .before .loop .at)
     (c .before .loop .lent) (at-least .ensures) (at-least2 .ensures) (c .before .loop .inv) (c .loop-test .left)
 
 pub load-spec : {M : Type 1} → statement M
@@ -79,7 +79,7 @@ load-spec =
     loop-holds
     shared-slice-read-lent
     slice-write-lent
-    add-i
+    add-at
     loop-less
     loop-again
     same-length

@@ -27,12 +27,12 @@ part-record-end c = search needs
 record-requires : tie.Need-record-requires
 record-requires c κs = search needs
 
-add-t30 : tie.Need-add-t30
-add-t30 c =
+add-next : tie.Need-add-next
+add-next c =
     let back = c .before .before .before .before .before .before .before .before .before .before .before .before in
     let further = back .before .before .before .before .before .before .before .before .before .before .before .before in
     let at-if1 = back .before .before .before .before .before .before .before .before .before .if1 in
-    let at-take-in = further .before .before .before .take-in in
+    let at-take-in = further .before .before .take-in in
     let complete = at-take-in .ensures .completed (at-if1 .taken) in
     omega (arith, complete .below)
 
@@ -49,14 +49,14 @@ same-length-4 : tie.Need-same-length-4
 same-length-4 c =
     let back = c .before .before .before .before .before .before .before .before .before .before .before .before in
     let further = back .before .before .before .before .before .before .before .before .before .before .before .before in
-    let at-kept = further .before .before .kept in
+    let at-kept = further .before .kept in
     at-kept .given
 
 same-length-5 : tie.Need-same-length-5
 same-length-5 c =
     let back = c .before .before .before .before .before .before .before .before .before .before .before .before in
     let at-line2 = c .before .before .before .line2 in
-    let at-line = back .before .before .before .before .before .before .before .before .before .before .before .before .line in
+    let at-line = back .before .before .before .before .before .before .before .before .before .before .before .line in
     at-line2 .given ∙ at-line .given
 
 returns : tie.Need-returns
@@ -67,9 +67,9 @@ returns c =
     let end = back .before .before .before .before .before .end-of in
     let kind = back .before .before .before .before .before .before .before .kind-of in
     let at-if1 = back .before .before .before .before .before .before .before .before .before .if1 in
-    let t = further .before .before .before .take-in in
-    let a = further .before .before .before .before .before .before .before .before .before .before .before .before .args in
-    feeds-record (a .g) (a .bytes .now) (a .marks .now) (a .out .now) (a .kept .now) (a .piece .now) (a .line .now) (t .result) (t .last .1 .0)
+    let t = further .before .before .take-in in
+    let a = further .before .before .before .before .before .before .before .before .before .before .before .args in
+    feeds-record (a .stream) (a .bytes .now) (a .marks .now) (a .out .now) (a .kept .now) (a .piece .now) (a .line .now) (t .result) (t .last .1 .0)
     (t .last .1 .1 .1 .0) (t .ensures)
     (kind .result) (end .result) (r .result) (r .last .1 .0) (r .last .1 .1 .0) (r .last .1 .1 .1 .0) (r .last .1 .1 .1 .1 .1 .1 .1 .0)
     (at-if1 .taken) (kind .ensures) (end .ensures) (r .ensures)
@@ -85,8 +85,8 @@ returns-2 c =
     let back = c .before .before .before .before .before .before .before .before .before .before .before .before in
     let t = c .before .before .before .before .before .before .take-in in
     let a = back .before .before .before .args in
-    feeds-passed (a .g) (a .bytes .now) (a .marks .now) (a .out .now) (a .kept .now) (a .piece .now) (a .line .now) (t .result) (t .last .1 .0)
-    (t .last .1 .1 .1 .0) (t .ensures) (c .if1 .left)
+    feeds-passed (a .stream) (a .bytes .now) (a .marks .now) (a .out .now) (a .kept .now) (a .piece .now) (a .line .now) (t .result) (t .last .1 .0)
+    (t .last .1 .1 .1 .0) (t .ensures) (c .before .if1 .left)
 
 pub advance-spec : {M : Type 1} → statement M
 advance-spec =
@@ -99,7 +99,7 @@ advance-spec =
     part-record-start
     part-record-end
     record-requires
-    add-t30
+    add-next
     same-length
     same-length-2
     same-length-3

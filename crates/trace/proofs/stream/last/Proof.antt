@@ -7,7 +7,7 @@ use Rattle.trace.proofs.stream.last.Tie as tie
 returns : tie.Need-returns
 returns c =
     let start = c .before .before .before in
-    last-done (start .args .g) (start .args .kept .now) (start .args .line .now) (c .if1 .taken)
+    last-done (start .args .stream) (start .args .kept .now) (start .args .line .now) (c .if1 .taken)
 
 begun-requires : tie.Need-begun-requires
 begun-requires c κs = search needs
@@ -16,7 +16,7 @@ returns-2 : tie.Need-returns-2
 returns-2 c =
     let at-if1 = c .before .before .if1 in
     let start = c .before .before .before .before .before in
-    last-none (start .args .g) (start .args .kept .now) (start .args .line .now) (c .before .begun .result) (c .before .begun .ensures) (at-if1 .left)
+    last-none (start .args .stream) (start .args .kept .now) (start .args .line .now) (c .before .begun .result) (c .before .begun .ensures) (at-if1 .left)
     (c .if2 .taken)
 
 put-full-requires : tie.Need-put-full-requires
@@ -33,7 +33,7 @@ returns-3 c =
     let at-begun = c .before .before .before .before .before .before .before .begun in
     let at-if1 = c .before .before .before .before .before .before .before .before .if1 in
     let start = c .before .before .before .before .before .before .before .before .before .before .before in
-    last-full (start .args .g) (start .args .kept .now) (start .args .line .now) (at-begun .result) (at-begun .ensures) (at-put-full .result)
+    last-full (start .args .stream) (start .args .kept .now) (start .args .line .now) (at-begun .result) (at-begun .ensures) (at-put-full .result)
     (at-put-full .last .0) (at-if1 .left) (at-if2 .left) (at-if3 .taken) (at-put-full .ensures)
 
 put-cut-requires : tie.Need-put-cut-requires
@@ -50,7 +50,7 @@ returns-4 c =
     let at-begun = c .before .before .before .before .before .before .before .begun in
     let at-if1 = c .before .before .before .before .before .before .before .before .if1 in
     let start = c .before .before .before .before .before .before .before .before .before .before .before in
-    last-cut (start .args .g) (start .args .kept .now) (start .args .line .now) (at-begun .result) (at-begun .ensures) (at-put-cut .result)
+    last-cut (start .args .stream) (start .args .kept .now) (start .args .line .now) (at-begun .result) (at-begun .ensures) (at-put-cut .result)
     (at-put-cut .last .0) (at-if1 .left) (at-if2 .left) (at-if3 .left) (at-put-cut .ensures)
 
 pub last-spec : {M : Type 1} → statement M

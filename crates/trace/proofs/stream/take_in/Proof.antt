@@ -8,12 +8,12 @@ use Rattle.trace.proofs.stream.take_in.Tie as tie
 returns : tie.Need-returns
 returns c =
     let a = c .before .before .before .before .args in
-    takes-done (a .g) (a .kept .now) (a .piece .now) (a .line .now) (c .if1 .taken)
+    takes-done (a .stream) (a .kept .now) (a .piece .now) (a .line .now) (c .if1 .taken)
 
 returns-2 : tie.Need-returns-2
 returns-2 c =
     let a = c .before .before .before .before .before .args in
-    takes-none (a .g) (a .kept .now) (a .piece .now) (a .line .now) (c .before .if1 .left) (c .if2 .taken)
+    takes-none (a .stream) (a .kept .now) (a .piece .now) (a .line .now) (c .before .if1 .left) (c .if2 .taken)
 
 put-full-requires : tie.Need-put-full-requires
 put-full-requires c κs = search needs
@@ -28,7 +28,7 @@ returns-3 c =
     let at-if2 = c .before .before .before .before .before .before .if2 in
     let at-if1 = c .before .before .before .before .before .before .before .if1 in
     let a = c .before .before .before .before .before .before .before .before .before .before .before .args in
-    takes-full (a .g) (a .kept .now) (a .piece .now) (a .line .now) (put .result) (put .last .0)
+    takes-full (a .stream) (a .kept .now) (a .piece .now) (a .line .now) (put .result) (put .last .0)
     (at-if1 .left) (at-if2 .left) (at-if3 .taken) (put .ensures)
 
 begun-requires : tie.Need-begun-requires
@@ -39,7 +39,7 @@ gather-requires c κs =
     let begun = c .before .begun in
     let a = c .before .before .before .before .before .before .before .before .before .before .args in
     let start = c .before .before .before .before .before .before .before .before .before .before in
-    (start .pre, (begun-is-open (a .kept .now) (a .g .have) (begun .result) (begun .ensures .0), begun .ensures .1))
+    (start .pre, (begun-is-open (a .kept .now) (a .stream .have) (begun .result) (begun .ensures .0), begun .ensures .1))
 
 add-now : tie.Need-add-now
 add-now c = search needs
@@ -58,7 +58,7 @@ returns-4 c =
     let at-if3 = c .before .before .before .before .before .before .before .before .if3 in
     let at-if1 = c .before .before .before .before .before .before .before .before .before .before .before .if1 in
     let a = back .before .before .before .args in
-    takes-gathered (a .g) (a .kept .now) (a .piece .now) (a .line .now) (begun .result) (gather .result) (gather .last .0)
+    takes-gathered (a .stream) (a .kept .now) (a .piece .now) (a .line .now) (begun .result) (gather .result) (gather .last .0)
     (at-if1 .left) (at-if3 .left) (begun .ensures .0) (gather .ensures) (c .is-open .result) (c .is-open .ensures .0)
 
 pub take-in-spec : {M : Type 1} → statement M

@@ -9,11 +9,11 @@ use Rattle.trace.proofs.stream.whole.Statement.{statement}
 use Rattle.trace.proofs.stream.whole.Tie as tie
 
 abbrev Inv-loop : tie.InvT-loop
-Inv-loop input dst₀ bytes₀ marks₀ out₀ kept₀ s₀ at₀ written₀ dst bytes marks out kept s at written =
-    Running input dst₀ bytes marks out kept dst s at written
+Inv-loop input dst₀ bytes₀ marks₀ out₀ kept₀ stream₀ at₀ written₀ dst bytes marks out kept stream at written =
+    Running input dst₀ bytes marks out kept dst stream at written
 
 abbrev μ-loop : tie.MeasureT-loop
-μ-loop input dst₀ bytes₀ marks₀ out₀ kept₀ s₀ at₀ written₀ dst bytes marks out kept s at written =
+μ-loop input dst₀ bytes₀ marks₀ out₀ kept₀ stream₀ at₀ written₀ dst bytes marks out kept stream at written =
     length input - at
 
 start-requires : tie.Need-start-requires Inv-loop μ-loop
@@ -47,14 +47,14 @@ sub-feed-2 c =
     let at-loop = c .before .before .before .before .before .before .loop in
     let start = c .before .before .before .before .before .before .before .before .before .before in
     running-room (start .args .input .now) (start .args .dst .now) (at-loop .bytes) (at-loop .marks) (at-loop .out) (at-loop .kept) (at-loop .dst)
-    (at-loop .s) (at-loop .at) (at-loop .written) (at-loop .inv)
+    (at-loop .stream) (at-loop .at) (at-loop .written) (at-loop .inv)
 
 part-feed-start-2 : tie.Need-part-feed-start-2 Inv-loop μ-loop
 part-feed-start-2 c =
     let at-loop = c .before .before .before .before .before .before .loop in
     let start = c .before .before .before .before .before .before .before .before .before .before in
     running-room (start .args .input .now) (start .args .dst .now) (at-loop .bytes) (at-loop .marks) (at-loop .out) (at-loop .kept) (at-loop .dst)
-    (at-loop .s) (at-loop .at) (at-loop .written) (at-loop .inv)
+    (at-loop .stream) (at-loop .at) (at-loop .written) (at-loop .inv)
 
 part-feed-end-2 : tie.Need-part-feed-end-2 Inv-loop μ-loop
 part-feed-end-2 c = omega arith
@@ -89,9 +89,9 @@ add-written c =
       (at-feed .ensures .printed .count),
       (start .good .1 .0),
       running-size (start .args .input .now) (start .args .dst .now) (at-loop .bytes)
-          (at-loop .marks) (at-loop .out) (at-loop .kept) (at-loop .dst) (at-loop .s) (at-loop .at) (at-loop .written) (at-loop .inv),
+          (at-loop .marks) (at-loop .out) (at-loop .kept) (at-loop .dst) (at-loop .stream) (at-loop .at) (at-loop .written) (at-loop .inv),
       running-room (start .args .input .now) (start .args .dst .now) (at-loop .bytes) (at-loop .marks) (at-loop .out) (at-loop .kept) (at-loop .dst)
-          (at-loop .s) (at-loop .at) (at-loop .written) (at-loop .inv),
+          (at-loop .stream) (at-loop .at) (at-loop .written) (at-loop .inv),
       length-drop (at-loop .written) (at-loop .dst),
       length-take (length (at-loop .dst) - (at-loop .written)) (drop (at-loop .written) (at-loop .dst)),
     )
@@ -104,7 +104,7 @@ loop-less c =
     let at-loop = back .before .before .before .before .loop in
     let start = back .before .before .before .before .before .before .before .before in
     running-next (start .args .input .now) (start .args .dst .now) (at-loop .bytes) (at-loop .marks) (at-loop .out) (at-loop .kept) (at-loop .dst)
-    (at-loop .s) (at-loop .at) (at-loop .written) (at-loop .inv) (at-feed .result) (at-feed .last .1 .0) (at-feed .last .1 .1 .0) (at-feed .last .1 .1 .1 .0)
+    (at-loop .stream) (at-loop .at) (at-loop .written) (at-loop .inv) (at-feed .result) (at-feed .last .1 .0) (at-feed .last .1 .1 .0) (at-feed .last .1 .1 .1 .0)
     (at-feed .last .1 .1 .1 .1 .0) (at-feed .last .1 .1 .1 .1 .1 .1 .0) (at-loop-test .taken) (at-feed .kept .1 .0) (at-feed .kept .1 .1 .0)
     (at-feed .kept .1 .1 .1 .0) (at-feed .ensures) .1
 
@@ -116,7 +116,7 @@ loop-again c =
     let at-loop = back .before .before .before .before .loop in
     let start = back .before .before .before .before .before .before .before .before in
     running-next (start .args .input .now) (start .args .dst .now) (at-loop .bytes) (at-loop .marks) (at-loop .out) (at-loop .kept) (at-loop .dst)
-    (at-loop .s) (at-loop .at) (at-loop .written) (at-loop .inv) (at-feed .result) (at-feed .last .1 .0) (at-feed .last .1 .1 .0) (at-feed .last .1 .1 .1 .0)
+    (at-loop .stream) (at-loop .at) (at-loop .written) (at-loop .inv) (at-feed .result) (at-feed .last .1 .0) (at-feed .last .1 .1 .0) (at-feed .last .1 .1 .1 .0)
     (at-feed .last .1 .1 .1 .1 .0) (at-feed .last .1 .1 .1 .1 .1 .1 .0) (at-loop-test .taken) (at-feed .kept .1 .0) (at-feed .kept .1 .1 .0)
     (at-feed .kept .1 .1 .1 .0) (at-feed .ensures) .0
 
@@ -125,14 +125,14 @@ sub-finish c =
     let at-loop = c .before .before .loop in
     let start = c .before .before .before .before .before .before in
     running-room (start .args .input .now) (start .args .dst .now) (at-loop .bytes) (at-loop .marks) (at-loop .out) (at-loop .kept) (at-loop .dst)
-    (at-loop .s) (at-loop .at) (at-loop .written) (at-loop .inv)
+    (at-loop .stream) (at-loop .at) (at-loop .written) (at-loop .inv)
 
 part-finish-start : tie.Need-part-finish-start Inv-loop μ-loop
 part-finish-start c =
     let at-loop = c .before .before .loop in
     let start = c .before .before .before .before .before .before in
     running-room (start .args .input .now) (start .args .dst .now) (at-loop .bytes) (at-loop .marks) (at-loop .out) (at-loop .kept) (at-loop .dst)
-    (at-loop .s) (at-loop .at) (at-loop .written) (at-loop .inv)
+    (at-loop .stream) (at-loop .at) (at-loop .written) (at-loop .inv)
 
 part-finish-end : tie.Need-part-finish-end Inv-loop μ-loop
 part-finish-end c = omega arith
@@ -150,9 +150,9 @@ add-result c =
       (at-finish .ensures .0 .count),
       (start .good .1 .0),
       running-size (start .args .input .now) (start .args .dst .now) (at-loop .bytes)
-          (at-loop .marks) (at-loop .out) (at-loop .kept) (at-loop .dst) (at-loop .s) (at-loop .at) (at-loop .written) (at-loop .inv),
+          (at-loop .marks) (at-loop .out) (at-loop .kept) (at-loop .dst) (at-loop .stream) (at-loop .at) (at-loop .written) (at-loop .inv),
       running-room (start .args .input .now) (start .args .dst .now) (at-loop .bytes) (at-loop .marks) (at-loop .out) (at-loop .kept) (at-loop .dst)
-          (at-loop .s) (at-loop .at) (at-loop .written) (at-loop .inv),
+          (at-loop .stream) (at-loop .at) (at-loop .written) (at-loop .inv),
       length-drop (at-loop .written) (at-loop .dst),
       length-take (length (at-loop .dst) - (at-loop .written)) (drop (at-loop .written) (at-loop .dst)),
     )
@@ -165,7 +165,7 @@ same-length c =
     let start = c .before .before .before .before .before .before .before .before .before .before in
     printed-long (start .args .dst .now) (trace (start .args .input .now)) _ _
     (running-done (start .args .input .now) (start .args .dst .now) (at-loop .bytes) (at-loop .marks) (at-loop .out) (at-loop .kept) (at-loop .dst)
-    (at-loop .s) (at-loop .at) (at-loop .written) (at-loop .inv) (at-finish .result) (at-finish .last .1 .1 .0) (at-finish .ensures .1) (at-loop-test .left)
+    (at-loop .stream) (at-loop .at) (at-loop .written) (at-loop .inv) (at-finish .result) (at-finish .last .1 .1 .0) (at-finish .ensures .1) (at-loop-test .left)
     (at-finish .ensures .0))
 
 returns : tie.Need-returns Inv-loop μ-loop
@@ -175,7 +175,7 @@ returns c =
     let at-loop = c .before .before .before .before .before .before .loop in
     let start = c .before .before .before .before .before .before .before .before .before .before in
     running-done (start .args .input .now) (start .args .dst .now) (at-loop .bytes) (at-loop .marks) (at-loop .out) (at-loop .kept) (at-loop .dst)
-    (at-loop .s) (at-loop .at) (at-loop .written) (at-loop .inv) (at-finish .result) (at-finish .last .1 .1 .0) (at-finish .ensures .1) (at-loop-test .left)
+    (at-loop .stream) (at-loop .at) (at-loop .written) (at-loop .inv) (at-finish .result) (at-finish .last .1 .1 .0) (at-finish .ensures .1) (at-loop-test .left)
     (at-finish .ensures .0)
 
 pub whole-spec : {M : Type 1} → statement M
