@@ -7,11 +7,11 @@ use Rattle.tracer.proofs.main.Statement.{statement}
 use Rattle.tracer.proofs.main.Tie as tie
 
 abbrev Inv-loop : tie.InvT-loop
-Inv-loop bytes₀ marks₀ out₀ kept₀ buf₀ s₀ turns₀ t13 t14 t15 bytes marks out kept buf s turns =
+Inv-loop bytes₀ marks₀ out₀ kept₀ buf₀ stream₀ turns₀ t13 t14 t15 bytes marks out kept buf stream turns =
     (length bytes ≡ 1024) × (length marks ≡ 1024) × (length out ≡ 2048) × (length buf ≡ 65536)
 
 abbrev μ-loop : tie.MeasureT-loop
-μ-loop bytes₀ marks₀ out₀ kept₀ buf₀ s₀ turns₀ t13 t14 t15 bytes marks out kept buf s turns = turns
+μ-loop bytes₀ marks₀ out₀ kept₀ buf₀ stream₀ turns₀ t13 t14 t15 bytes marks out kept buf stream turns = turns
 
 start-requires : tie.Need-start-requires Inv-loop μ-loop
 start-requires c κs = tt

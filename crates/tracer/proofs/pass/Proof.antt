@@ -12,17 +12,17 @@ use Rattle.tracer.proofs.pass.Statement.{statement}
 use Rattle.tracer.proofs.pass.Tie as tie
 
 abbrev Inv-loop : tie.InvT-loop
-Inv-loop bytes₀ marks₀ out₀ kept₀ piece line₀ s₀ at₀ bytes marks out kept line s at =
-    Passing s₀ bytes₀ marks₀ out₀ kept₀ piece at s bytes marks out kept × (length line ≡ mostLine) × (length bytes ≡ length bytes₀)
+Inv-loop bytes₀ marks₀ out₀ kept₀ piece line₀ next₀ at₀ bytes marks out kept line next at =
+    Passing next₀ bytes₀ marks₀ out₀ kept₀ piece at next bytes marks out kept × (length line ≡ mostLine) × (length bytes ≡ length bytes₀)
     × (length marks ≡ length marks₀) × (length out ≡ length out₀)
 
 abbrev μ-loop : tie.MeasureT-loop
-μ-loop bytes₀ marks₀ out₀ kept₀ piece line₀ s₀ at₀ bytes marks out kept line s at = length piece - at
+μ-loop bytes₀ marks₀ out₀ kept₀ piece line₀ next₀ at₀ bytes marks out kept line next at = length piece - at
 
 loop-holds : tie.Need-loop-holds Inv-loop μ-loop
 loop-holds c =
     let start = c .before .before .before .before in (
-      passing-begins (start .args .g) (start .args .bytes .now) (start .args .marks .now) (start .args .out .now) (start .args .kept .now)
+      passing-begins (start .args .stream) (start .args .bytes .now) (start .args .marks .now) (start .args .out .now) (start .args .kept .now)
           (start .args .piece .now),
       refl,
       refl,
@@ -111,9 +111,9 @@ loop-less c =
     let at-loop-test = back .before .before .before .before .before .before .before .loop-test in
     let at-loop = back .before .before .before .before .before .before .before .before .loop in
     let start = further .before in
-    fed-further (at-loop .s) (at-loop .bytes) (at-loop .marks) (at-loop .out) (at-loop .kept) (start .args .piece .now) (at-loop .at) (at-loop .line)
+    fed-further (at-loop .next) (at-loop .bytes) (at-loop .marks) (at-loop .out) (at-loop .kept) (start .args .piece .now) (at-loop .at) (at-loop .line)
     (at-feed .result) (at-feed .last .1 .0) (at-feed .last .1 .1 .0) (at-feed .last .1 .1 .1 .0) (at-feed .last .1 .1 .1 .1 .0)
-    (at-feed .last .1 .1 .1 .1 .1 .1 .0) (at-loop-test .taken) (fed-on (at-loop .s) (at-loop .bytes) (at-loop .marks) (at-loop .out) (at-loop .kept)
+    (at-feed .last .1 .1 .1 .1 .1 .1 .0) (at-loop-test .taken) (fed-on (at-loop .next) (at-loop .bytes) (at-loop .marks) (at-loop .out) (at-loop .kept)
     (start .args .piece .now) (at-loop .at) (at-loop .line) (at-feed .result) (at-feed .last .1 .0) (at-feed .last .1 .1 .0) (at-feed .last .1 .1 .1 .0)
     (at-feed .last .1 .1 .1 .1 .0) (at-feed .last .1 .1 .1 .1 .1 .1 .0) (at-feed .ensures))
 
@@ -124,11 +124,11 @@ loop-again c =
     let at-feed = c .before .before .before .before .before .before .before .before .before .before .before .before .feed in
     let at-loop = back .before .before .before .before .before .before .before .before .loop in
     let start = further .before in (
-      passing-next (start .args .g) (start .args .bytes .now) (start .args .marks .now) (start .args .out .now) (start .args .kept .now)
-          (start .args .piece .now) (at-loop .at) (at-loop .s) (at-loop .bytes) (at-loop .marks) (at-loop .out) (at-loop .kept) (at-loop .inv .0)
+      passing-next (start .args .stream) (start .args .bytes .now) (start .args .marks .now) (start .args .out .now) (start .args .kept .now)
+          (start .args .piece .now) (at-loop .at) (at-loop .next) (at-loop .bytes) (at-loop .marks) (at-loop .out) (at-loop .kept) (at-loop .inv .0)
           (at-loop .line) (at-feed .result) (at-feed .last .1 .0) (at-feed .last .1 .1 .0) (at-feed .last .1 .1 .1 .0) (at-feed .last .1 .1 .1 .1 .0)
           (at-feed .last .1 .1 .1 .1 .1 .1 .0) (length-drop (at-loop .at) (start .args .piece .now))
-          (fed-on (at-loop .s) (at-loop .bytes) (at-loop .marks) (at-loop .out) (at-loop .kept) (start .args .piece .now) (at-loop .at) (at-loop .line)
+          (fed-on (at-loop .next) (at-loop .bytes) (at-loop .marks) (at-loop .out) (at-loop .kept) (start .args .piece .now) (at-loop .at) (at-loop .line)
           (at-feed .result) (at-feed .last .1 .0) (at-feed .last .1 .1 .0) (at-feed .last .1 .1 .1 .0) (at-feed .last .1 .1 .1 .1 .0)
           (at-feed .last .1 .1 .1 .1 .1 .1 .0) (at-feed .ensures)),
       (at-feed .kept .1 .1 .1 .1 .1 .1 .0) ∙ (at-loop .inv .1),
@@ -150,8 +150,8 @@ same-length-6 c = (c .before .loop .inv .4)
 returns-2 : tie.Need-returns-2 Inv-loop μ-loop
 returns-2 c =
     let start = c .before .before .before .before .before .before in
-    λ e. passing-done (start .args .g) (start .args .bytes .now) (start .args .marks .now) (start .args .out .now) (start .args .kept .now)
-    (start .args .piece .now) (c .before .loop .at) (c .before .loop .s) (c .before .loop .bytes) (c .before .loop .marks) (c .before .loop .out)
+    λ e. passing-done (start .args .stream) (start .args .bytes .now) (start .args .marks .now) (start .args .out .now) (start .args .kept .now)
+    (start .args .piece .now) (c .before .loop .at) (c .before .loop .next) (c .before .loop .bytes) (c .before .loop .marks) (c .before .loop .out)
     (c .before .loop .kept) (c .before .loop .inv .0) (c .loop-test .left)
 
 pub pass-spec : {M : Type 1} → statement M
