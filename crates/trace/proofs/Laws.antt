@@ -142,10 +142,10 @@ lentBy Malformed = 0
 
 ---- carry
 
-module _ (p : Port) (bs ms os : List ℕ) (kind : ℕ) (body : List ℕ) (d : Decoded) (h : Decodes kind body d) where
-  pub malformed-carried : (l : List ℕ) → d ≡ Malformed
+module _ {kind : ℕ} {body : List ℕ} {d : Decoded} (h : Decodes kind body d) where
+  pub malformed-carried : {p : Port} {bs ms os l : List ℕ} → d ≡ Malformed
       → Carries p bs ms os kind body l (record { port = p; answer = record { outcome = Refused OutOfRange; count = 0 }; given = 0 }) bs ms os l
-  malformed-carried l e =
+  malformed-carried {p} {bs} {ms} {os} {l} e =
       let w : malformed ≡ decode kind body = sym (ap (λ (y : Decoded). meant y body) e) ∙ h .means in
       let r : answered (sizes p bs ms os) (get p bs ms os) malformed ≡ answeredOf p bs ms os kind body =
       ap (answered (sizes p bs ms os) (get p bs ms os)) w in
@@ -158,7 +158,7 @@ module _ (p : Port) (bs ms os : List ℕ) (kind : ℕ) (body : List ℕ) (d : De
             subst (λ (y : trace.Decoded). Exactly y p bs ms os l body (answeredOf p bs ms os kind body .1 .answer) p bs ms os) w (refl, refl, refl, refl);
       }
 
-  module _ (call : Call) (n : ℕ) (e : d ≡ WellFormed call n) where
+  module _ {call : Call} {n : ℕ} (e : d ≡ WellFormed call n) where
     asked : asks call (lentOf call n body) ≡ decode kind body
     asked = sym (ap (λ (y : Decoded). meant y body) e) ∙ h .means
 
@@ -171,11 +171,11 @@ module _ (p : Port) (bs ms os : List ℕ) (kind : ℕ) (body : List ℕ) (d : De
         omega (arith, as-long, bounds .few)
 
     -- the call as the record asks for it
-    made : (l m l′ bs′ ms′ os′ : List ℕ) (r : Answered) (a : Answer)
+    made : (p : Port) (bs ms os l m l′ bs′ ms′ os′ : List ℕ) (r : Answered) (a : Answer)
         → m ≡ take (min n (min (length body) (length l))) body ++ drop (min n (min (length body) (length l))) l
         → r .answer ≡ a → Exact p (held bs ms os (take n m)) call r (held bs′ ms′ os′ l′)
         → Exactly (decode kind body) p bs ms os l body a (r .port) bs′ ms′ os′
-    made l m l′ bs′ ms′ os′ r a lm ea x =
+    made p bs ms os l m l′ bs′ ms′ os′ r a lm ea x =
         let lent : take n m ≡ lentFrom l (length (lentOf call n body)) body = ap (take n) lm ∙ ap (λ (k : ℕ). lentFrom l k body) as-long in
         subst (λ (y : trace.Decoded). Exactly y p bs ms os l body a (r .port) bs′ ms′ os′) asked
         (record {
@@ -185,11 +185,11 @@ module _ (p : Port) (bs ms os : List ℕ) (kind : ℕ) (body : List ℕ) (d : De
               (subst (λ (y : Answer). Exact p (held bs ms os (take n m)) call (record { port = r .port; answer = y }) (held bs′ ms′ os′ l′)) ea x);
         })
 
-    pub carried : (l m l′ bs′ ms′ os′ : List ℕ) (r : Answered) (g : ℕ) → mostLent ≤ length l → length m ≡ length l
+    pub carried : {p : Port} {bs ms os l m l′ bs′ ms′ os′ : List ℕ} {r : Answered} {g : ℕ} → mostLent ≤ length l → length m ≡ length l
         → m ≡ take (min n (min (length body) (length l))) body ++ drop (min n (min (length body) (length l))) l
         → Stepped p (held bs ms os (take n m)) call r (held bs′ ms′ os′ l′) → g ≡ givenOf call (r .answer .count)
         → Carries p bs ms os kind body l (record { port = r .port; answer = r .answer; given = g }) bs′ ms′ os′ (l′ ++ drop n m)
-    carried l m l′ bs′ ms′ os′ r g big em lm s eg =
+    carried {p} {bs} {ms} {os} {l} {m} {l′} {bs′} {ms′} {os′} {r} {g} big em lm s eg =
         let z : Sizes = sizes p bs ms os in
         let v : State = get p bs ms os in
         let reply : Reply = step z v call (take n m) .1 in
@@ -208,8 +208,9 @@ module _ (p : Port) (bs ms os : List ℕ) (kind : ℕ) (body : List ℕ) (d : De
           upto =
               omega (arith, long, ap length whole, length-append (handed reply) (drop (length (handed reply)) (take n m) ++ drop n m));
           now = record { state = s .now .state ∙ ap (λ (y : State × Reply). y .0) same; sizes = s .now .sizes };
-          exact = made l m l′ bs′ ms′ os′ r (answeredOf p bs ms os kind body .1 .answer) lm (s .answer ∙ ap (λ (y : State × Reply). y .1 .answer) same)
-              (s .exact);
+          exact =
+              made p bs ms os l m l′ bs′ ms′ os′ r (answeredOf p bs ms os kind body .1 .answer) lm
+              (s .answer ∙ ap (λ (y : State × Reply). y .1 .answer) same) (s .exact);
         }
 
 ---- record
