@@ -1,10 +1,10 @@
 -- In whatever pieces an input arrives, its lines are those of the whole. Assumes nothing.
-use Prim.Native.Nat.{ℕ, _+_, _-_, _≤_, min}
+use Prim.Native.Nat.{ℕ, _+_, _-_, _≤_, _<_, min}
 use native.Mathlib.Omega.{arith}
-use mathlib.Core.Path.{_≡_, refl, sym, ap, ap₂, _∙_}
+use mathlib.Core.Path.{_≡_, refl, sym, ap, ap₂, subst, _∙_}
 use mathlib.Core.Bool.{Bool, true, false, _||_, cond}
 use mathlib.Core.List.{List, [], _++_, append-assoc}
-use lib.ListN.{length, take, drop}
+use lib.ListN.{length, take, drop, length-drop}
 use lib.Seq.{take-all, take-at, drop-drop, drop-length}
 use lib.Dec.{leb}
 use Rattle.rules.specs.Sizes.{Sizes, State, base}
@@ -65,23 +65,30 @@ pub record Passing (g : Stream) (bs ms os kept piece : List ℕ) (at : ℕ) (r :
   pub text : List ℕ
   pub along : (rest : List ℕ) → future g bs ms os kept (piece ++ rest) ≡ text ++ future r bs′ ms′ os′ kept′ (drop at piece ++ rest)
 
-pub passing-begins : (g : Stream) (bs ms os kept piece : List ℕ) → Passing g bs ms os kept piece 0 g bs ms os kept
-passing-begins g bs ms os kept piece = record { upto = omega arith; text = []; along = λ rest. refl }
+pub passing-begins : {g : Stream} {bs ms os kept piece : List ℕ} → Passing g bs ms os kept piece 0 g bs ms os kept
+passing-begins = record { upto = omega arith; text = []; along = λ rest. refl }
 
-module _ (g : Stream) (bs ms os kept piece : List ℕ) (at : ℕ) (s : Stream) (bs₁ ms₁ os₁ kept₁ : List ℕ)
+module _ {g : Stream} {bs ms os kept piece : List ℕ} {at : ℕ} {s : Stream} {bs₁ ms₁ os₁ kept₁ : List ℕ}
     (h : Passing g bs ms os kept piece at s bs₁ ms₁ os₁ kept₁) where
-  pub passing-next : (l : List ℕ) (r : Fed) (bs₂ ms₂ os₂ kept₂ l₂ : List ℕ) → length (drop at piece) ≡ length piece - at
-      → Feeds s bs₁ ms₁ os₁ kept₁ (drop at piece) l r bs₂ ms₂ os₂ kept₂ l₂ → Passing g bs ms os kept piece (at + r .used) (r .stream) bs₂ ms₂ os₂ kept₂
-  passing-next l r bs₂ ms₂ os₂ kept₂ l₂ e f =
-      record {
-        upto = omega (arith, f .used, e, h .upto);
-        text = h .text ++ f .text;
-        along = λ rest.
-            h .along rest
-            ∙ ap (λ (y : List ℕ). h .text ++ y) (f .along rest)
-            ∙ sym (append-assoc (h .text) (f .text) (future (r .stream) bs₂ ms₂ os₂ kept₂ (drop (r .used) (drop at piece) ++ rest)))
-            ∙ ap (λ (y : List ℕ). (h .text ++ f .text) ++ future (r .stream) bs₂ ms₂ os₂ kept₂ (y ++ rest)) (drop-drop (r .used) at piece);
-      }
+  -- the code hands over the piece from a place on; some of it is used
+  pub passing-next : {l : List ℕ} {r : Fed} {bs₂ ms₂ os₂ kept₂ l₂ : List ℕ} → at < length piece
+      → Feeds s bs₁ ms₁ os₁ kept₁ (take (length piece - at) (drop at piece)) l r bs₂ ms₂ os₂ kept₂ l₂
+      → Passing g bs ms os kept piece (at + r .used) (r .stream) bs₂ ms₂ os₂ kept₂ × (length piece - (at + r .used) < length piece - at)
+  passing-next {l} {r} {bs₂} {ms₂} {os₂} {kept₂} {l₂} lt fed =
+      let f =
+      subst (λ (y : List ℕ). Feeds s bs₁ ms₁ os₁ kept₁ y l r bs₂ ms₂ os₂ kept₂ l₂)
+      (take-all (length piece - at) (drop at piece) (omega (arith, length-drop at piece))) fed in (
+        record {
+          upto = omega (arith, f .used, length-drop at piece, h .upto);
+          text = h .text ++ f .text;
+          along = λ rest.
+              h .along rest
+              ∙ ap (λ (y : List ℕ). h .text ++ y) (f .along rest)
+              ∙ sym (append-assoc (h .text) (f .text) (future (r .stream) bs₂ ms₂ os₂ kept₂ (drop (r .used) (drop at piece) ++ rest)))
+              ∙ ap (λ (y : List ℕ). (h .text ++ f .text) ++ future (r .stream) bs₂ ms₂ os₂ kept₂ (y ++ rest)) (drop-drop (r .used) at piece);
+        },
+        omega (arith, f .further (omega (arith, length-drop at piece)), f .used, length-drop at piece),
+      )
 
   pub passing-done : length piece ≤ at → Passes g bs ms os kept piece s bs₁ ms₁ os₁ kept₁
   passing-done le =

@@ -1,7 +1,6 @@
 -- `trace::stream::whole` meets its contract. Assumes nothing.
-use Rattle.rules.specs.Trace.{trace}
-use Rattle.trace.proofs.stream.WholeInput.{Running, running-begins, running-size, running-room, running-next, running-done, printed-long}
-use lib.ListN.{length, drop, length-take, length-drop}
+use Rattle.trace.proofs.stream.WholeInput.{Running, running-begins, running-room, running-next, running-done, printed-long}
+use lib.ListN.{length}
 use mathlib.Core.Path.{refl, sym}
 use Prim.Native.Nat.{_-_}
 use native.Mathlib.Omega.{arith}
