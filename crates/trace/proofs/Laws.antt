@@ -49,11 +49,11 @@ pub record Loading (l body : List ℕ) (k i : ℕ) (m : List ℕ) : Type 0 where
   pub most : k ≤ min (length body) (length l)
   pub slice : m ≡ paste l 0 body i
 
-pub loading-begins : (l body : List ℕ) (n most k : ℕ) → most ≡ min (length body) (length l) → k ≡ min n most → Loading l body k 0 l
-loading-begins l body n most k em ek = record { upto = omega arith; most = omega (arith, em, ek); slice = paste-zero l 0 body }
+pub loading-begins : {l body : List ℕ} {most k : ℕ} (n : ℕ) → most ≡ min (length body) (length l) → k ≡ min n most → Loading l body k 0 l
+loading-begins {l} {body} n em ek = record { upto = omega arith; most = omega (arith, em, ek); slice = paste-zero l 0 body }
 
-pub loading-next : (l body : List ℕ) (k i : ℕ) (m : List ℕ) → Loading l body k i m → i < k → Loading l body k (i + 1) (set m i (getD body i 0))
-loading-next l body k i m a lt =
+pub loading-next : {l body : List ℕ} {k i : ℕ} {m : List ℕ} → Loading l body k i m → i < k → Loading l body k (i + 1) (set m i (getD body i 0))
+loading-next {l} {body} {k} {i} a lt =
     record {
       upto = omega arith;
       most = a .most;
@@ -64,14 +64,14 @@ loading-next l body k i m a lt =
           ∙ ap (paste l 0 body) (sym (add-one i));
     }
 
-pub loaded : (l body : List ℕ) (n most k i : ℕ) (m : List ℕ) → most ≡ min (length body) (length l) → k ≡ min n most → Loading l body k i m → k ≤ i
+pub loaded : {l body : List ℕ} {most k i : ℕ} {m : List ℕ} (n : ℕ) → most ≡ min (length body) (length l) → k ≡ min n most → Loading l body k i m → k ≤ i
     → m ≡ take (min n (min (length body) (length l))) body ++ drop (min n (min (length body) (length l))) l
-loaded l body n most k i m em ek a le =
+loaded {l} {body} {most} {k} {i} n em ek a le =
     let all : i ≡ min n (min (length body) (length l)) = omega (arith, a .upto, em, ek) in
     a .slice ∙ ap (λ (j : ℕ). take i body ++ drop j l) (zero-add i) ∙ ap (λ (j : ℕ). take j body ++ drop j l) all
 
-pub loading-size : (l body : List ℕ) (k i : ℕ) (m : List ℕ) → Loading l body k i m → length m ≡ length l
-loading-size l body k i m a =
+pub loading-size : {l body : List ℕ} {k i : ℕ} {m : List ℕ} → Loading l body k i m → length m ≡ length l
+loading-size {l} {body} {k} {i} a =
     ap length (a .slice) ∙ length-paste l 0 body i (omega (arith, a .upto, a .most)) (omega (arith, a .upto, a .most))
 
 ---- What a call hands out, and counts
@@ -215,10 +215,10 @@ module _ {kind : ℕ} {body : List ℕ} {d : Decoded} (h : Decodes kind body d) 
 
 ---- record
 
-pub recorded : (p : Port) (bs ms os : List ℕ) (index kind : ℕ) (body l l′ : List ℕ) (c : Carried) (k : ℕ) (bs′ ms′ os′ lent′ : List ℕ)
+pub recorded : {p : Port} {bs ms os : List ℕ} {index kind : ℕ} {body l l′ : List ℕ} {c : Carried} {k : ℕ} {bs′ ms′ os′ lent′ : List ℕ}
     → Carries p bs ms os kind body (replicate mostLent 0) c bs′ ms′ os′ lent′ → Prints l (lineOf index kind (c .answer) (take (c .given) lent′)) k l′
     → Records p bs ms os index kind body l (record { port = c .port; length = k }) bs′ ms′ os′ l′
-recorded p bs ms os index kind body l l′ c k bs′ ms′ os′ lent′ h t =
+recorded {index} {kind} {l} {l′} {k} h t =
     record {
       line =
           subst (λ (y : List ℕ). Prints l y k l′)

@@ -70,7 +70,14 @@ fn main() {
         if n == 0 {
             break;
         }
-        let passed = pass(stream, &mut bytes, &mut marks, &mut out, &mut kept, &buf[..n]);
+        let passed = pass(
+            stream,
+            &mut bytes,
+            &mut marks,
+            &mut out,
+            &mut kept,
+            &buf[..n],
+        );
         if !passed.written {
             os::fail(b"write");
             return;

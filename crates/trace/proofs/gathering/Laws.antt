@@ -62,9 +62,9 @@ pub record Gathering (kept₀ : List ℕ) (have : ℕ) (piece : List ℕ) (at : 
   pub same : (z : Sizes) (m i : ℕ) (s : State) (rest : List ℕ)
       → traceFrom z m i s (come kept₀ have ++ (piece ++ rest)) ≡ traceFrom z m i s (come kept (have + at) ++ (drop at piece ++ rest))
 
-pub gathering-begins : (kept : List ℕ) (have : ℕ) (piece : List ℕ) → length kept ≡ mostKept → isOpen kept have ≡ true → have < mostSize
+pub gathering-begins : {kept : List ℕ} {have : ℕ} {piece : List ℕ} → length kept ≡ mostKept → isOpen kept have ≡ true → have < mostSize
     → Gathering kept have piece 0 kept
-gathering-begins kept have piece e o lt =
+gathering-begins {kept} {have} {piece} e o lt =
     record {
       used = omega arith;
       first = λ n. refl;
@@ -77,11 +77,11 @@ gathering-begins kept have piece e o lt =
     none : have ≡ have + 0
     none = omega arith
 
-module _ (kept₀ : List ℕ) (have : ℕ) (piece : List ℕ) (at : ℕ) (kept : List ℕ) (h : Gathering kept₀ have piece at kept) where
-  pub gathering-next : (b : ℕ) (t : Bool) (kept′ : List ℕ) → at < length piece → b ≡ getD piece at 0
+module _ {kept₀ : List ℕ} {have : ℕ} {piece : List ℕ} {at : ℕ} {kept : List ℕ} (h : Gathering kept₀ have piece at kept) where
+  pub gathering-next : {b : ℕ} {t : Bool} {kept′ : List ℕ} → at < length piece → b ≡ getD piece at 0
       → (t ≡ isOpen kept (have + at)) × (t ≡ true → have + at < mostSize) → t ≡ true → kept′ ≡ set kept (have + at) b
       → Gathering kept₀ have piece (at + 1) kept′
-  gathering-next b t kept′ lt eb ht e ek =
+  gathering-next {b} lt eb ht e ek =
       let o : have + at < sizeOf kept = ltb-true (have + at) (sizeOf kept) (sym (ht .0) ∙ e) in
       let sum : have + at + 1 ≡ have + (at + 1) = omega arith in
       record {
@@ -100,9 +100,9 @@ module _ (kept₀ : List ℕ) (have : ℕ) (piece : List ℕ) (at : ℕ) (kept :
       }
 
   -- the record is complete
-  pub gathered-all : (t : Bool) → isOpen kept₀ have ≡ true → (t ≡ isOpen kept (have + at)) × (t ≡ true → have + at < mostSize) → t ≡ false
+  pub gathered-all : {t : Bool} → isOpen kept₀ have ≡ true → (t ≡ isOpen kept (have + at)) × (t ≡ true → have + at < mostSize) → t ≡ false
       → Gathers kept₀ have piece at kept
-  gathered-all t o ht e =
+  gathered-all o ht e =
       record {
         used = h .used;
         further = λ some. by-at at refl;

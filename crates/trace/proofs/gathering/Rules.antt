@@ -81,7 +81,7 @@ drop-past p rest n le =
     ap (λ (k : ℕ). drop k (p ++ rest)) e ∙ drop-append-add p rest (n - length p)
 
 module _ (z : Sizes) (i : ℕ) (s : State) (a b c d : ℕ) (p q rest : List ℕ) (e : length p ≡ length q)
-  (many : mostBody ≤ length p) (le : length p ≤ two a b) where
+    (many : mostBody ≤ length p) (le : length p ≤ two a b) where
   abbrev size : ℕ
   size = two a b
 

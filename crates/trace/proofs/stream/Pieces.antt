@@ -29,22 +29,23 @@ written l t r l′ le h =
     let n : length t ≡ r = omega (arith, h .count) in
     ap (take r) (h .buffer ∙ ap (λ (y : List ℕ). y ++ drop (length t) l) (take-all (length l) t le)) ∙ take-at t (drop (length t) l) r n
 
-left-at-most : (g : Stream) (kept : List ℕ) → length (left g kept) ≤ mostLine
-left-at-most g kept = by (g .done || none-there g kept) (leb mostRecords (g .index))
+left-at-most : (stream : Stream) (kept : List ℕ) → length (left stream kept) ≤ mostLine
+left-at-most stream kept = by (stream .done || none-there stream kept) (leb mostRecords (stream .index))
   where
-    by : (a b : Bool) → length (cond a [] (cond b (fullLine (g .index)) (cutLine (g .index)))) ≤ mostLine
+    by : (a b : Bool) → length (cond a [] (cond b (fullLine (stream .index)) (cutLine (stream .index)))) ≤ mostLine
     by true b = omega arith
-    by false true = full-at-most (g .index)
-    by false false = cut-at-most (g .index)
+    by false true = full-at-most (stream .index)
+    by false false = cut-at-most (stream .index)
 
 -- what is written is what was to be printed
-pub writes-future : {ps : List (List ℕ)} {g : Stream} {bs ms os kept t : List ℕ} → Writes ps g bs ms os kept t → t ≡ future g bs ms os kept (joined ps)
-writes-future (feeds {g} {bs} {ms} {os} {kept} {p} {l} {ps} {r} {bs′} {ms′} {os′} {kept′} {l′} {t} room h w) =
+pub writes-future : {ps : List (List ℕ)} {stream : Stream} {bs ms os kept t : List ℕ} → Writes ps stream bs ms os kept t
+    → t ≡ future stream bs ms os kept (joined ps)
+writes-future (feeds {stream} {bs} {ms} {os} {kept} {p} {l} {ps} {r} {bs′} {ms′} {os′} {kept′} {l′} {t} room h w) =
     ap₂ (λ (x y : List ℕ). x ++ y) (written l (h .text) (r .length) l′ (omega (arith, h .short)) (h .printed)) (writes-future w)
     ∙ sym (h .along (joined ps))
 writes-future (used w) = writes-future w
-writes-future (finishes {g} {bs} {ms} {os} {kept} {l} {r} {l′} e room h) =
-    written l (left g kept) r l′ (omega (arith, left-at-most g kept)) h ∙ sym (at-end g bs ms os kept e)
+writes-future (finishes {stream} {bs} {ms} {os} {kept} {l} {r} {l′} e room h) =
+    written l (left stream kept) r l′ (omega (arith, left-at-most stream kept)) h ∙ sym (at-end stream bs ms os kept e)
 
 -- from the beginning, all is to be printed
 pub future-begins : (bs ms os kept rest : List ℕ) → length bs ≡ 1024 → length ms ≡ 1024 → length os ≡ 2048 → future beginning bs ms os kept rest ≡ trace rest
@@ -60,20 +61,20 @@ writes-the-whole pieces bs ms os kept t eb em eo w = writes-future w ∙ future-
 ---- A piece as a whole
 
 -- from place at on
-pub record Passing (g : Stream) (bs ms os kept piece : List ℕ) (at : ℕ) (r : Stream) (bs′ ms′ os′ kept′ : List ℕ) : Type 0 where
+pub record Passing (stream : Stream) (bs ms os kept piece : List ℕ) (at : ℕ) (r : Stream) (bs′ ms′ os′ kept′ : List ℕ) : Type 0 where
   pub upto : at ≤ length piece
   pub text : List ℕ
-  pub along : (rest : List ℕ) → future g bs ms os kept (piece ++ rest) ≡ text ++ future r bs′ ms′ os′ kept′ (drop at piece ++ rest)
+  pub along : (rest : List ℕ) → future stream bs ms os kept (piece ++ rest) ≡ text ++ future r bs′ ms′ os′ kept′ (drop at piece ++ rest)
 
-pub passing-begins : {g : Stream} {bs ms os kept piece : List ℕ} → Passing g bs ms os kept piece 0 g bs ms os kept
+pub passing-begins : {stream : Stream} {bs ms os kept piece : List ℕ} → Passing stream bs ms os kept piece 0 stream bs ms os kept
 passing-begins = record { upto = omega arith; text = []; along = λ rest. refl }
 
-module _ {g : Stream} {bs ms os kept piece : List ℕ} {at : ℕ} {s : Stream} {bs₁ ms₁ os₁ kept₁ : List ℕ}
-    (h : Passing g bs ms os kept piece at s bs₁ ms₁ os₁ kept₁) where
+module _ {stream : Stream} {bs ms os kept piece : List ℕ} {at : ℕ} {s : Stream} {bs₁ ms₁ os₁ kept₁ : List ℕ}
+    (h : Passing stream bs ms os kept piece at s bs₁ ms₁ os₁ kept₁) where
   -- the code hands over the piece from a place on; some of it is used
   pub passing-next : {l : List ℕ} {r : Fed} {bs₂ ms₂ os₂ kept₂ l₂ : List ℕ} → at < length piece
       → Feeds s bs₁ ms₁ os₁ kept₁ (take (length piece - at) (drop at piece)) l r bs₂ ms₂ os₂ kept₂ l₂
-      → Passing g bs ms os kept piece (at + r .used) (r .stream) bs₂ ms₂ os₂ kept₂ × (length piece - (at + r .used) < length piece - at)
+      → Passing stream bs ms os kept piece (at + r .used) (r .stream) bs₂ ms₂ os₂ kept₂ × (length piece - (at + r .used) < length piece - at)
   passing-next {l} {r} {bs₂} {ms₂} {os₂} {kept₂} {l₂} lt fed =
       let f =
       subst (λ (y : List ℕ). Feeds s bs₁ ms₁ os₁ kept₁ y l r bs₂ ms₂ os₂ kept₂ l₂)
@@ -90,7 +91,7 @@ module _ {g : Stream} {bs ms os kept piece : List ℕ} {at : ℕ} {s : Stream} {
         omega (arith, f .further (omega (arith, length-drop at piece)), f .used, length-drop at piece),
       )
 
-  pub passing-done : length piece ≤ at → Passes g bs ms os kept piece s bs₁ ms₁ os₁ kept₁
+  pub passing-done : length piece ≤ at → Passes stream bs ms os kept piece s bs₁ ms₁ os₁ kept₁
   passing-done le =
       let e : at ≡ length piece = omega (arith, h .upto) in
       record {
