@@ -12,7 +12,8 @@ use Rattle.rules.specs.declared.Event.{Event}
 use Rattle.rules.specs.declared.Call.{Call}
 use Rattle.rules.specs.declared.Call.the-variants.{Set, Receive, Flush, Foreground}
 use Rattle.rules.specs.Settings.{settingsOf}
-use Rattle.rules.specs.Trace.{Decoded, malformed, asks, bitOf, isFlag, flag, settingsRecordOn, readRecordOn, transmitRecordOn, settingsRecord, byteRecord, emptyRecord}
+use Rattle.rules.specs.Trace.{Decoded, malformed, asks, bitOf, isFlag, flag, settingsRecordOn, readRecordOn, transmitRecordOn}
+use Rattle.rules.specs.Trace.{settingsRecord, byteRecord, emptyRecord}
 use Rattle.rules.specs.Trace.{readRecord, transmitRecord, flushRecord, foregroundRecord}
 use Rattle.records.specs.Bodies.{count, number}
 use Rattle.records.specs.Records.{told}

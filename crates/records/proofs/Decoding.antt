@@ -14,7 +14,8 @@ use Rattle.rules.specs.declared.Event.the-variants.{Good, Parity, Framing, Brea
 use Rattle.rules.specs.declared.Call.{Call}
 use Rattle.rules.specs.declared.Call.the-variants.{Set, Receive, Read, Write, Transmit, Flush, Cancel, Foreground}
 use Rattle.rules.specs.Settings.{settingsOf}
-use Rattle.rules.specs.Trace.{Decoded, malformed, asks, bitOf, isFlag, flag, readRecordOn, transmitRecordOn, settingsRecord, byteRecord, emptyRecord, readRecord}
+use Rattle.rules.specs.Trace.{Decoded, malformed, asks, bitOf, isFlag, flag, readRecordOn, transmitRecordOn, settingsRecord}
+use Rattle.rules.specs.Trace.{byteRecord, emptyRecord, readRecord}
 use Rattle.rules.specs.Trace.{writeRecord, transmitRecord, flushRecord, foregroundRecord, decode}
 use Rattle.records.specs.Bodies.{count, number}
 use Rattle.records.specs.Records.{Decodes, told, meant}

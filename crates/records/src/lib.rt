@@ -1,12 +1,12 @@
-// Document 01, 'The trace program': the numbers in a record's body.
-// Document 01, 'The trace program': what a record asks for.
+// Document 01, 'The trace program': what a record asks for, by its kind and the numbers in its body.
 pub mod lines;
 
 ghost use mathlib.Core.Path.{_≡_};
 ghost use Prim.Native.Nat.{_<_, ℕ};
 ghost use lib.ListN.{getD, length};
 ghost use Rattle.rules.specs.Lent.{before};
-ghost use Rattle.rules.specs.Trace.{«two», «four», bitOf, asks, malformed, settingsRecord, readRecord, writeRecord, transmitRecord, flushRecord, foregroundRecord};
+ghost use Rattle.rules.specs.Trace.{«two», «four», bitOf, asks, malformed, settingsRecord, readRecord, writeRecord};
+ghost use Rattle.rules.specs.Trace.{transmitRecord, flushRecord, foregroundRecord};
 ghost use Rattle.records.specs.Bodies.{count, number};
 ghost use mathlib.Core.List.{[]};
 ghost use mathlib.Core.Bool.{cond};
@@ -17,12 +17,30 @@ use rules::Call;
 use rules::Event;
 use rules::Settings;
 
-// The byte at place i of what a record holds, 0 beyond the end.
-pub fn value(values: &[u8], i: usize) -> u8
-    ensures { λ r. ⌜ r ≡ getD (before values) i 0 ⌝ }
+// '15 values'
+pub const VALUES: usize = 15;
+
+// '1 settings (4 flag bytes, 15 values)'
+pub const SETTINGS: usize = 4 + VALUES;
+
+// '8 read (2-byte count to 1,024'
+pub const MOST_READ: usize = 1024;
+
+// '9 write (0 to 512)'
+pub const MOST_WRITTEN: usize = 512;
+
+// '10 transmit (2-byte count to 2,048)'
+pub const MOST_SENT: usize = 2048;
+
+// '13 foreground (4-byte group to 2,147,483,647'
+pub const MOST_GROUP: u32 = 2147483647;
+
+// The byte at a place of what a record holds, 0 beyond the end.
+fn value(values: &[u8], at: usize) -> u8
+    ensures { λ r. ⌜ r ≡ getD (before values) at 0 ⌝ }
 {
-    if i < values.len() {
-        return values[i];
+    if at < values.len() {
+        return values[at];
     }
     0
 }
@@ -36,7 +54,7 @@ pub fn two(a: u8, b: u8) -> usize
 }
 
 // The 2-byte number at the front of a body.
-pub fn count_of(body: &[u8]) -> usize
+fn count_of(body: &[u8]) -> usize
     ensures { λ r. ⌜ r ≡ count (before body) ⌝ }
 {
     two(value(body, 0), value(body, 1))
@@ -49,7 +67,7 @@ fn four(a: u8, b: u8, c: u8, d: u8) -> u32
 }
 
 // The 4-byte number at the front of a body.
-pub fn number_of(body: &[u8]) -> u32
+fn number_of(body: &[u8]) -> u32
     ensures { λ r. ⌜ r ≡ number (before body) ⌝ }
 {
     let a = value(body, 0);
@@ -67,16 +85,16 @@ pub enum Decoded {
 }
 
 // The 15 values in the table's order, each in its default's place.
-fn in_places(values: &[u8]) -> [u8; 15]
-    ensures { λ r. ⌜ ((i : ℕ) → i < 15 → getD r i 0 ≡ getD (before values) i 0) ⌝ }
+fn in_places(values: &[u8]) -> [u8; VALUES]
+    ensures { λ r. ⌜ ((k : ℕ) → k < 15 → getD r k 0 ≡ getD (before values) k 0) ⌝ }
 {
-    let mut v = settings::DEFAULTS;
-    let mut i = 0;
-    while i < 15 {
-        v[i] = value(values, i);
-        i += 1;
+    let mut table = settings::DEFAULTS;
+    let mut k = 0;
+    while k < VALUES {
+        table[k] = value(values, k);
+        k += 1;
     }
-    v
+    table
 }
 
 // The settings that a record's 32 flags and 15 values mean.
@@ -90,7 +108,7 @@ fn recorded(flags: u32, values: &[u8]) -> Settings
 fn settings_record(body: &[u8]) -> Decoded
     ensures { λ r. ⌜ r ≡ told (settingsRecord (before body)) ⌝ }
 {
-    if body.len() != 19 {
+    if body.len() != SETTINGS {
         return Decoded::Malformed;
     }
     let flags = number_of(body);
@@ -123,7 +141,7 @@ fn read_record(body: &[u8]) -> Decoded
     if body.len() != 3 {
         return Decoded::Malformed;
     }
-    if n > 1024 {
+    if n > MOST_READ {
         return Decoded::Malformed;
     }
     if flag > 1 {
@@ -141,7 +159,7 @@ fn read_record(body: &[u8]) -> Decoded
 fn write_record(body: &[u8]) -> Decoded
     ensures { λ r. ⌜ r ≡ told (writeRecord (before body)) ⌝ }
 {
-    if body.len() > 512 {
+    if body.len() > MOST_WRITTEN {
         return Decoded::Malformed;
     }
     Decoded::WellFormed {
@@ -158,7 +176,7 @@ fn transmit_record(body: &[u8]) -> Decoded
     if body.len() != 2 {
         return Decoded::Malformed;
     }
-    if n > 2048 {
+    if n > MOST_SENT {
         return Decoded::Malformed;
     }
     Decoded::WellFormed {
@@ -196,7 +214,7 @@ fn foreground_record(body: &[u8]) -> Decoded
     if body.len() != 5 {
         return Decoded::Malformed;
     }
-    if group > 2147483647 {
+    if group > MOST_GROUP {
         return Decoded::Malformed;
     }
     if orphaned > 1 {

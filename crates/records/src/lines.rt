@@ -1,7 +1,5 @@
-// Texts laid one after the other into a buffer: bytes, words, decimal numbers.
-// Document 01, 'The trace program': 'bytes given in lower hex or `-`'.
-// Document 01, 'The trace program': the lines `cut` and `full`, which end a trace.
-// Document 01, 'The trace program': the line printed for a record.
+// Document 01, 'The trace program': the line printed for a record, and the lines `cut` and `full`, which end a trace: bytes, words,
+// decimal numbers and lower hex laid one after the other into a buffer.
 ghost use mathlib.Core.Path.{_≡_};
 ghost use mathlib.Core.List.{[], _∷_, _++_};
 ghost use Prim.Native.Nat.{_+_, _%_, _<_};
@@ -15,8 +13,17 @@ use rules::Refusal;
 use rules::Signal;
 use rules::Verdict;
 
+// An index, a kind and a count are at most 65,535.
+const DIGITS: usize = 5;
+
+// the digit 0
+const ZERO: u8 = b'0';
+
+// 10 below the digit `a` of lower hex, which stands for 10
+const BELOW_A: u8 = b'a' - 10;
+
 // Each of these writes a text from place at on, as much of it as the buffer holds, and answers the place after it.
-pub fn put_byte(line: &mut [u8], at: usize, b: u8) -> usize
+fn put_byte(line: &mut [u8], at: usize, b: u8) -> usize
     ensures { λ r. ⌜ Puts (before line) at (b ∷ []) r (after line) ⌝ }
 {
     if at < line.len() {
@@ -26,24 +33,24 @@ pub fn put_byte(line: &mut [u8], at: usize, b: u8) -> usize
     at
 }
 
-pub fn put_word(line: &mut [u8], at: usize, word: &[u8]) -> usize
+fn put_word(line: &mut [u8], at: usize, word: &[u8]) -> usize
     ensures { λ r. ⌜ Puts (before line) at (before word) r (after line) ⌝ }
 {
-    let mut p = at;
-    let mut i = 0;
-    while i < word.len() {
-        p = put_byte(line, p, word[i]);
-        i += 1;
+    let mut place = at;
+    let mut k = 0;
+    while k < word.len() {
+        place = put_byte(line, place, word[k]);
+        k += 1;
     }
-    p
+    place
 }
 
 // the last digit of n
 fn digit(n: usize) -> u8
     ensures { λ r. ⌜ r ≡ 48 + n % 10 ⌝ }
 {
-    let d = n % 10;
-    48 + d as u8
+    let last = n % 10;
+    ZERO + last as u8
 }
 
 fn put_digits(line: &mut [u8], at: usize, most: usize, n: usize) -> usize
@@ -52,46 +59,46 @@ fn put_digits(line: &mut [u8], at: usize, most: usize, n: usize) -> usize
     if most == 0 {
         return at;
     }
-    let mut p = at;
+    let mut place = at;
     if 10 <= n {
-        p = put_digits(line, at, most - 1, n / 10);
+        place = put_digits(line, at, most - 1, n / 10);
     }
-    put_byte(line, p, digit(n))
+    put_byte(line, place, digit(n))
 }
 
-pub fn put_decimal(line: &mut [u8], at: usize, n: usize) -> usize
+fn put_decimal(line: &mut [u8], at: usize, n: usize) -> usize
     ensures { λ r. ⌜ Puts (before line) at (decimal n) r (after line) ⌝ }
 {
-    put_digits(line, at, 5, n)
+    put_digits(line, at, DIGITS, n)
 }
 
 // 'lower hex'
-fn hex_digit(d: u8) -> u8
-    requires { ⌜ d < 16 ⌝ }
-    ensures { λ r. ⌜ r ≡ hexDigit d ⌝ }
+fn hex_digit(value: u8) -> u8
+    requires { ⌜ value < 16 ⌝ }
+    ensures { λ r. ⌜ r ≡ hexDigit value ⌝ }
 {
-    if d < 10 {
-        return 48 + d;
+    if value < 10 {
+        return ZERO + value;
     }
-    87 + d
+    BELOW_A + value
 }
 
 // 'bytes given in lower hex or `-`'
-pub fn put_hex(line: &mut [u8], at: usize, bytes: &[u8]) -> usize
+fn put_hex(line: &mut [u8], at: usize, bytes: &[u8]) -> usize
     ensures { λ r. ⌜ Puts (before line) at (hexOrDash (before bytes)) r (after line) ⌝ }
 {
     if bytes.len() == 0 {
         return put_byte(line, at, b'-');
     }
-    let mut p = at;
-    let mut i = 0;
-    while i < bytes.len() {
-        let b = bytes[i];
-        p = put_byte(line, p, hex_digit(b / 16));
-        p = put_byte(line, p, hex_digit(b % 16));
-        i += 1;
+    let mut place = at;
+    let mut k = 0;
+    while k < bytes.len() {
+        let b = bytes[k];
+        place = put_byte(line, place, hex_digit(b / 16));
+        place = put_byte(line, place, hex_digit(b % 16));
+        k += 1;
     }
-    p
+    place
 }
 
 // 'A cut last record prints its index and `cut`.'
@@ -195,8 +202,8 @@ fn outcome_word(outcome: Outcome) -> Word
 fn put_number(line: &mut [u8], at: usize, n: usize) -> usize
     ensures { λ r. ⌜ Puts (before line) at (decimal n ++ text " ") r (after line) ⌝ }
 {
-    let p = put_decimal(line, at, n);
-    put_byte(line, p, b' ')
+    let place = put_decimal(line, at, n);
+    put_byte(line, place, b' ')
 }
 
 fn put_outcome(line: &mut [u8], at: usize, outcome: Outcome) -> usize
@@ -205,8 +212,8 @@ fn put_outcome(line: &mut [u8], at: usize, outcome: Outcome) -> usize
     let word = outcome_word(outcome);
     let letters = word.0;
     let length = word.1;
-    let p = put_word(line, at, &letters[..length]);
-    put_byte(line, p, b' ')
+    let place = put_word(line, at, &letters[..length]);
+    put_byte(line, place, b' ')
 }
 
 // 'A line each: index from 0, kind, outcome, count, bytes given.'

@@ -39,6 +39,7 @@ use Rattle.trace.specs.declared.Recorded.{Recorded}
 use Rattle.trace.specs.declared.Carried.{Carried}
 use Rattle.rules.specs.asking.Asking.{Asked}
 use Rattle.rules.proofs.asking.Laws.{asked-of}
+use Rattle.trace.specs.Numbers.{mostLent}
 
 ---- load
 
@@ -48,11 +49,11 @@ pub record Loading (l body : List ℕ) (k i : ℕ) (m : List ℕ) : Type 0 where
   pub most : k ≤ min (length body) (length l)
   pub slice : m ≡ paste l 0 body i
 
-pub loading-begins : (l body : List ℕ) (n most k : ℕ) → most ≡ min (length body) (length l) → k ≡ min n most → Loading l body k 0 l
-loading-begins l body n most k em ek = record { upto = omega arith; most = omega (arith, em, ek); slice = paste-zero l 0 body }
+pub loading-begins : {l body : List ℕ} {most k : ℕ} (n : ℕ) → most ≡ min (length body) (length l) → k ≡ min n most → Loading l body k 0 l
+loading-begins {l} {body} n em ek = record { upto = omega arith; most = omega (arith, em, ek); slice = paste-zero l 0 body }
 
-pub loading-next : (l body : List ℕ) (k i : ℕ) (m : List ℕ) → Loading l body k i m → i < k → Loading l body k (i + 1) (set m i (getD body i 0))
-loading-next l body k i m a lt =
+pub loading-next : {l body : List ℕ} {k i : ℕ} {m : List ℕ} → Loading l body k i m → i < k → Loading l body k (i + 1) (set m i (getD body i 0))
+loading-next {l} {body} {k} {i} a lt =
     record {
       upto = omega arith;
       most = a .most;
@@ -63,14 +64,14 @@ loading-next l body k i m a lt =
           ∙ ap (paste l 0 body) (sym (add-one i));
     }
 
-pub loaded : (l body : List ℕ) (n most k i : ℕ) (m : List ℕ) → most ≡ min (length body) (length l) → k ≡ min n most → Loading l body k i m → k ≤ i
+pub loaded : {l body : List ℕ} {most k i : ℕ} {m : List ℕ} (n : ℕ) → most ≡ min (length body) (length l) → k ≡ min n most → Loading l body k i m → k ≤ i
     → m ≡ take (min n (min (length body) (length l))) body ++ drop (min n (min (length body) (length l))) l
-loaded l body n most k i m em ek a le =
+loaded {l} {body} {most} {k} {i} n em ek a le =
     let all : i ≡ min n (min (length body) (length l)) = omega (arith, a .upto, em, ek) in
     a .slice ∙ ap (λ (j : ℕ). take i body ++ drop j l) (zero-add i) ∙ ap (λ (j : ℕ). take j body ++ drop j l) all
 
-pub loading-size : (l body : List ℕ) (k i : ℕ) (m : List ℕ) → Loading l body k i m → length m ≡ length l
-loading-size l body k i m a =
+pub loading-size : {l body : List ℕ} {k i : ℕ} {m : List ℕ} → Loading l body k i m → length m ≡ length l
+loading-size {l} {body} {k} {i} a =
     ap length (a .slice) ∙ length-paste l 0 body i (omega (arith, a .upto, a .most)) (omega (arith, a .upto, a .most))
 
 ---- What a call hands out, and counts
@@ -141,10 +142,10 @@ lentBy Malformed = 0
 
 ---- carry
 
-module _ (p : Port) (bs ms os : List ℕ) (kind : ℕ) (body : List ℕ) (d : Decoded) (h : Decodes kind body d) where
-  pub malformed-carried : (l : List ℕ) → d ≡ Malformed
+module _ {kind : ℕ} {body : List ℕ} {d : Decoded} (h : Decodes kind body d) where
+  pub malformed-carried : {p : Port} {bs ms os l : List ℕ} → d ≡ Malformed
       → Carries p bs ms os kind body l (record { port = p; answer = record { outcome = Refused OutOfRange; count = 0 }; given = 0 }) bs ms os l
-  malformed-carried l e =
+  malformed-carried {p} {bs} {ms} {os} {l} e =
       let w : malformed ≡ decode kind body = sym (ap (λ (y : Decoded). meant y body) e) ∙ h .means in
       let r : answered (sizes p bs ms os) (get p bs ms os) malformed ≡ answeredOf p bs ms os kind body =
       ap (answered (sizes p bs ms os) (get p bs ms os)) w in
@@ -157,24 +158,24 @@ module _ (p : Port) (bs ms os : List ℕ) (kind : ℕ) (body : List ℕ) (d : De
             subst (λ (y : trace.Decoded). Exactly y p bs ms os l body (answeredOf p bs ms os kind body .1 .answer) p bs ms os) w (refl, refl, refl, refl);
       }
 
-  module _ (call : Call) (n : ℕ) (e : d ≡ WellFormed call n) where
+  module _ {call : Call} {n : ℕ} (e : d ≡ WellFormed call n) where
     asked : asks call (lentOf call n body) ≡ decode kind body
     asked = sym (ap (λ (y : Decoded). meant y body) e) ∙ h .means
 
     as-long : n ≡ length (lentOf call n body)
     as-long = ap lentBy (sym e ∙ h .tells ∙ ap told (sym asked))
 
-    pub at-most : n ≤ 2048
+    pub at-most : n ≤ mostLent
     at-most =
         let bounds : Asked kind body (asks call (lentOf call n body)) = subst (Asked kind body) (sym asked) (asked-of kind body) in
         omega (arith, as-long, bounds .few)
 
     -- the call as the record asks for it
-    made : (l m l′ bs′ ms′ os′ : List ℕ) (r : Answered) (a : Answer)
+    made : (p : Port) (bs ms os l m l′ bs′ ms′ os′ : List ℕ) (r : Answered) (a : Answer)
         → m ≡ take (min n (min (length body) (length l))) body ++ drop (min n (min (length body) (length l))) l
         → r .answer ≡ a → Exact p (held bs ms os (take n m)) call r (held bs′ ms′ os′ l′)
         → Exactly (decode kind body) p bs ms os l body a (r .port) bs′ ms′ os′
-    made l m l′ bs′ ms′ os′ r a lm ea x =
+    made p bs ms os l m l′ bs′ ms′ os′ r a lm ea x =
         let lent : take n m ≡ lentFrom l (length (lentOf call n body)) body = ap (take n) lm ∙ ap (λ (k : ℕ). lentFrom l k body) as-long in
         subst (λ (y : trace.Decoded). Exactly y p bs ms os l body a (r .port) bs′ ms′ os′) asked
         (record {
@@ -184,11 +185,11 @@ module _ (p : Port) (bs ms os : List ℕ) (kind : ℕ) (body : List ℕ) (d : De
               (subst (λ (y : Answer). Exact p (held bs ms os (take n m)) call (record { port = r .port; answer = y }) (held bs′ ms′ os′ l′)) ea x);
         })
 
-    pub carried : (l m l′ bs′ ms′ os′ : List ℕ) (r : Answered) (g : ℕ) → 2048 ≤ length l → length m ≡ length l
+    pub carried : {p : Port} {bs ms os l m l′ bs′ ms′ os′ : List ℕ} {r : Answered} {g : ℕ} → mostLent ≤ length l → length m ≡ length l
         → m ≡ take (min n (min (length body) (length l))) body ++ drop (min n (min (length body) (length l))) l
         → Stepped p (held bs ms os (take n m)) call r (held bs′ ms′ os′ l′) → g ≡ givenOf call (r .answer .count)
         → Carries p bs ms os kind body l (record { port = r .port; answer = r .answer; given = g }) bs′ ms′ os′ (l′ ++ drop n m)
-    carried l m l′ bs′ ms′ os′ r g big em lm s eg =
+    carried {p} {bs} {ms} {os} {l} {m} {l′} {bs′} {ms′} {os′} {r} {g} big em lm s eg =
         let z : Sizes = sizes p bs ms os in
         let v : State = get p bs ms os in
         let reply : Reply = step z v call (take n m) .1 in
@@ -207,16 +208,17 @@ module _ (p : Port) (bs ms os : List ℕ) (kind : ℕ) (body : List ℕ) (d : De
           upto =
               omega (arith, long, ap length whole, length-append (handed reply) (drop (length (handed reply)) (take n m) ++ drop n m));
           now = record { state = s .now .state ∙ ap (λ (y : State × Reply). y .0) same; sizes = s .now .sizes };
-          exact = made l m l′ bs′ ms′ os′ r (answeredOf p bs ms os kind body .1 .answer) lm (s .answer ∙ ap (λ (y : State × Reply). y .1 .answer) same)
-              (s .exact);
+          exact =
+              made p bs ms os l m l′ bs′ ms′ os′ r (answeredOf p bs ms os kind body .1 .answer) lm
+              (s .answer ∙ ap (λ (y : State × Reply). y .1 .answer) same) (s .exact);
         }
 
 ---- record
 
-pub recorded : (p : Port) (bs ms os : List ℕ) (index kind : ℕ) (body l l′ : List ℕ) (c : Carried) (k : ℕ) (bs′ ms′ os′ lent′ : List ℕ)
-    → Carries p bs ms os kind body (replicate 2048 0) c bs′ ms′ os′ lent′ → Prints l (lineOf index kind (c .answer) (take (c .given) lent′)) k l′
+pub recorded : {p : Port} {bs ms os : List ℕ} {index kind : ℕ} {body l l′ : List ℕ} {c : Carried} {k : ℕ} {bs′ ms′ os′ lent′ : List ℕ}
+    → Carries p bs ms os kind body (replicate mostLent 0) c bs′ ms′ os′ lent′ → Prints l (lineOf index kind (c .answer) (take (c .given) lent′)) k l′
     → Records p bs ms os index kind body l (record { port = c .port; length = k }) bs′ ms′ os′ l′
-recorded p bs ms os index kind body l l′ c k bs′ ms′ os′ lent′ h t =
+recorded {index} {kind} {l} {l′} {k} h t =
     record {
       line =
           subst (λ (y : List ℕ). Prints l y k l′)
@@ -246,7 +248,7 @@ pub one-record : (p : Port) (bs ms os : List ℕ) (index kind : ℕ) (body l : L
     → (r ≡ q) × (bs′ ≡ cs) × (ms′ ≡ ns) × (os′ ≡ qs) × (l′ ≡ k)
 one-record p bs ms os index kind body l r q bs′ ms′ os′ l′ cs ns qs k h j =
     let s =
-    one-exactly (decode kind body) p bs ms os (replicate 2048 0) body (answeredOf p bs ms os kind body .1 .answer) (r .port) (q .port) bs′ ms′ os′ cs ns qs
+    one-exactly (decode kind body) p bs ms os (replicate mostLent 0) body (answeredOf p bs ms os kind body .1 .answer) (r .port) (q .port) bs′ ms′ os′ cs ns qs
     (h .exact) (j .exact) in
     let t = prints-unique (r .length) (q .length) l′ k (h .line) (j .line) in
     (ap₂ (λ (y : Port) (n : ℕ). record { port = y; length = n }) (s .0) (t .0), s .1, s .2, s .3, t .1)

@@ -19,6 +19,7 @@ use Rattle.port.specs.Calls.{Now}
 use Rattle.discipline.specs.Contract.{Exact, held}
 use Rattle.trace.specs.declared.Carried.{Carried}
 use Rattle.trace.specs.declared.Recorded.{Recorded}
+use Rattle.trace.specs.Numbers.{mostLent}
 
 -- the rules' answer to a record, from what a port and its slices are
 abbrev pub answeredOf : Port → List ℕ → List ℕ → List ℕ → ℕ → List ℕ → State × Reply
@@ -73,7 +74,7 @@ CarriesLent p bytes marks out kind body lent r =
 pub record Records (p : Port) (bs ms os : List ℕ) (index kind : ℕ) (body l : List ℕ) (r : Recorded) (bs′ ms′ os′ l′ : List ℕ) : Type 0 where
   pub line : Prints l (line index kind (answeredOf p bs ms os kind body .1)) (r .length) l′
   pub now : Now p bs ms os (answeredOf p bs ms os kind body .0) (r .port) bs′ ms′ os′
-  pub exact : Exactly (decode kind body) p bs ms os (replicate 2048 0) body (answeredOf p bs ms os kind body .1 .answer) (r .port) bs′ ms′ os′
+  pub exact : Exactly (decode kind body) p bs ms os (replicate mostLent 0) body (answeredOf p bs ms os kind body .1 .answer) (r .port) bs′ ms′ os′
 
 abbrev pub RecordsLent : Port → Lent → Lent → Lent → ℕ → ℕ → Lent → Lent → Recorded → Type 0
 RecordsLent p bytes marks out index kind body line r =

@@ -7,6 +7,7 @@ ghost use Prim.Native.Nat.{_≤_};
 ghost use lib.ListN.{length};
 ghost use Rattle.rules.specs.Lent.{before, after};
 ghost use Rattle.trace.specs.Contract.{givenOf, CarriesLent, RecordsLent, loaded};
+ghost use Rattle.trace.specs.Numbers.{mostLent};
 use port::Port;
 use records::Decoded;
 use records::lines;
@@ -14,6 +15,9 @@ use rules::Answer;
 use rules::Call;
 use rules::Outcome;
 use rules::Refusal;
+
+// No call is lent more bytes than a transmit.
+const LENT: usize = records::MOST_SENT;
 
 // The port after a record, the answer, and how many bytes were handed out into the lent buffer.
 pub struct Carried {
@@ -34,10 +38,10 @@ fn load(lent: &mut [u8], body: &[u8], n: usize)
 {
     let most = queue::least(body.len(), lent.len());
     let k = queue::least(n, most);
-    let mut i = 0;
-    while i < k {
-        lent[i] = body[i];
-        i += 1;
+    let mut at = 0;
+    while at < k {
+        lent[at] = body[at];
+        at += 1;
     }
 }
 
@@ -70,11 +74,11 @@ fn carry(
     body: &[u8],
     lent: &mut [u8],
 ) -> Carried
-    requires { ⌜ 2048 ≤ length (now lent) ⌝ }
+    requires { ⌜ mostLent ≤ length (now lent) ⌝ }
     ensures { λ r. ⌜ CarriesLent p bytes marks out kind body lent r ⌝ }
 {
-    let d = records::decode(kind, body);
-    let Decoded::WellFormed { call, lent: n } = d else {
+    let decoded = records::decode(kind, body);
+    let Decoded::WellFormed { call, lent: n } = decoded else {
         return Carried {
             port: p,
             answer: Answer {
@@ -85,9 +89,9 @@ fn carry(
         };
     };
     load(lent, body, n);
-    let r = discipline::step(p, bytes, marks, out, call, &mut lent[..n]);
-    let port = r.port;
-    let answer = r.answer;
+    let answered = discipline::step(p, bytes, marks, out, call, &mut lent[..n]);
+    let port = answered.port;
+    let answer = answered.answer;
     let given = given_of(call, answer.count);
     Carried {
         port: port,
@@ -109,11 +113,11 @@ pub fn record(
 ) -> Recorded
     ensures { λ r. ⌜ RecordsLent p bytes marks out index kind body line r ⌝ }
 {
-    let mut lent = [0u8; 2048];
-    let c = carry(p, bytes, marks, out, kind, body, &mut lent);
-    let port = c.port;
-    let answer = c.answer;
-    let given = c.given;
+    let mut lent = [0u8; LENT];
+    let carried = carry(p, bytes, marks, out, kind, body, &mut lent);
+    let port = carried.port;
+    let answer = carried.answer;
+    let given = carried.given;
     let length = lines::put_line(line, index, kind, answer, &lent[..given]);
     Recorded {
         port: port,

@@ -1,12 +1,12 @@
-// Document 01, 'The trace program': where its stream of records stands, the next bytes taken in, and what is printed at its end.
-// Document 01, 'The trace program', on an input that comes in pieces: a line as soon as its record is complete.
-// Document 01, 'The trace program', on an input that is there as a whole: every record in turn, a line each.
+// Document 01, 'The trace program': where its stream of records stands, the next bytes taken in, a line as soon as its record is
+// complete, and what is printed at its end; on an input that comes in pieces, or is there as a whole.
 ghost use mathlib.Core.Path.{_≡_};
 ghost use lib.ListN.{length};
 ghost use Rattle.rules.specs.Lent.{before, after};
 ghost use Rattle.records.specs.lines.Puts.{Prints};
 ghost use Rattle.trace.specs.stream.Contract.{beginning, left, TakesIn, FeedsLent};
 ghost use Rattle.rules.specs.Trace.{trace};
+ghost use Rattle.trace.specs.Numbers.{mostKept};
 use super::gathering;
 use port::Port;
 use records::lines;
@@ -21,19 +21,28 @@ pub struct Stream {
 
 // What bytes of a piece come to: how many are used, where the stream stands then, the length of the line printed for them; or that
 // with them a record is complete, and is to be carried out.
-pub struct Taken {
-    pub used: usize,
-    pub have: usize,
-    pub done: bool,
-    pub length: usize,
-    pub complete: bool,
+struct Taken {
+    used: usize,
+    have: usize,
+    done: bool,
+    length: usize,
+    complete: bool,
 }
 
 impl Stream {
-    // header and body as far as they are kept: a body of more than 512 bytes is malformed whatever it holds
-    pub const KEPT: usize = 517;
+    // 'two-byte length of the body, two-byte kind'
+    pub const HEADER: usize = 4;
 
-    // no line is longer
+    // as much of a body as is kept: one of more than 512 bytes is malformed whatever it holds
+    pub const BODY: usize = records::MOST_WRITTEN + 1;
+
+    // header and body as far as they are kept
+    pub const KEPT: usize = Stream::HEADER + Stream::BODY;
+
+    // 'At most 65,535 records are read'
+    pub const MOST: usize = 65535;
+
+    // no line is longer: three numbers of 5 digits, `allowed`, 2,048 bytes in hex, four spaces, a newline
     pub const LINE: usize = 4123;
 
     pub fn start() -> Stream
@@ -50,14 +59,14 @@ impl Stream {
 }
 
 // the next bytes of the input, up to the end of a record
-pub fn take_in(g: Stream, kept: &mut [u8], piece: &[u8], line: &mut [u8]) -> Taken
-    requires { ⌜ length (now kept) ≡ 517 ⌝ }
-    ensures { λ r. ⌜ TakesIn g (before kept) (before piece) (before line) r (after kept) (after line) ⌝ }
+fn take_in(stream: Stream, kept: &mut [u8], piece: &[u8], line: &mut [u8]) -> Taken
+    requires { ⌜ length (now kept) ≡ mostKept ⌝ }
+    ensures { λ r. ⌜ TakesIn stream (before kept) (before piece) (before line) r (after kept) (after line) ⌝ }
 {
-    if g.done {
+    if stream.done {
         return Taken {
             used: piece.len(),
-            have: g.have,
+            have: stream.have,
             done: true,
             length: 0,
             complete: false,
@@ -66,23 +75,23 @@ pub fn take_in(g: Stream, kept: &mut [u8], piece: &[u8], line: &mut [u8]) -> Tak
     if piece.len() == 0 {
         return Taken {
             used: 0,
-            have: g.have,
+            have: stream.have,
             done: false,
             length: 0,
             complete: false,
         };
     }
-    if g.index >= 65535 { // 'At most 65,535 records are read'
-        let k = lines::put_full(line, g.index);
+    if stream.index >= Stream::MOST { // 'At most 65,535 records are read'
+        let length = lines::put_full(line, stream.index);
         return Taken {
             used: piece.len(),
             have: 0,
             done: true,
-            length: k,
+            length: length,
             complete: false,
         };
     }
-    let have = gathering::begun(kept, g.have);
+    let have = gathering::begun(kept, stream.have);
     let used = gathering::gather(kept, have, piece);
     let now = have + used;
     let open = gathering::is_open(kept, now);
@@ -95,28 +104,28 @@ pub fn take_in(g: Stream, kept: &mut [u8], piece: &[u8], line: &mut [u8]) -> Tak
     }
 }
 
-fn last(g: Stream, kept: &[u8], line: &mut [u8]) -> usize
-    requires { ⌜ length (now kept) ≡ 517 ⌝ }
-    ensures { λ r. ⌜ Prints (before line) (left g (before kept)) r (after line) ⌝ }
+fn last(stream: Stream, kept: &[u8], line: &mut [u8]) -> usize
+    requires { ⌜ length (now kept) ≡ mostKept ⌝ }
+    ensures { λ r. ⌜ Prints (before line) (left stream (before kept)) r (after line) ⌝ }
 {
-    if g.done {
+    if stream.done {
         return 0;
     }
-    if gathering::begun(kept, g.have) == 0 {
+    if gathering::begun(kept, stream.have) == 0 {
         return 0;
     }
-    if g.index >= 65535 { // 'one more, even cut, prints its index and `full`'
-        return lines::put_full(line, g.index);
+    if stream.index >= Stream::MOST { // 'one more, even cut, prints its index and `full`'
+        return lines::put_full(line, stream.index);
     }
-    lines::put_cut(line, g.index)
+    lines::put_cut(line, stream.index)
 }
 
 // the input is at its end: 'A cut last record prints its index and `cut`.' The second clause says what the type of kept says.
-pub fn finish(g: Stream, kept: &[u8; Stream::KEPT], line: &mut [u8]) -> usize
-    ensures { λ r. ⌜ Prints (before line) (left g (before kept)) r (after line) ⌝ }
-    ensures { λ _. ⌜ length (before kept) ≡ 517 ⌝ }
+pub fn finish(stream: Stream, kept: &[u8; Stream::KEPT], line: &mut [u8]) -> usize
+    ensures { λ r. ⌜ Prints (before line) (left stream (before kept)) r (after line) ⌝ }
+    ensures { λ _. ⌜ length (before kept) ≡ mostKept ⌝ }
 {
-    last(g, kept, line)
+    last(stream, kept, line)
 }
 
 // The stream after a piece, how many bytes of the piece it used, and the length of the line printed for them.
@@ -127,7 +136,7 @@ pub struct Fed {
 }
 
 fn advance(
-    g: Stream,
+    stream: Stream,
     bytes: &mut [u8],
     marks: &mut [u8],
     out: &mut [u8],
@@ -135,42 +144,50 @@ fn advance(
     piece: &[u8],
     line: &mut [u8],
 ) -> Fed
-    requires { ⌜ length (now kept) ≡ 517 ⌝ }
-    ensures { λ r. ⌜ FeedsLent g bytes marks out kept piece line r ⌝ }
+    requires { ⌜ length (now kept) ≡ mostKept ⌝ }
+    ensures { λ r. ⌜ FeedsLent stream bytes marks out kept piece line r ⌝ }
 {
-    let t = take_in(g, kept, piece, line);
-    let port = g.port;
-    if t.complete {
+    let taken = take_in(stream, kept, piece, line);
+    if taken.complete {
         let kind = gathering::kind_of(kept);
         let to = gathering::end_of(kept);
-        let r = super::record(port, bytes, marks, out, g.index, kind, &kept[4..to], line);
-        let after = r.port;
+        let recorded = super::record(
+            stream.port,
+            bytes,
+            marks,
+            out,
+            stream.index,
+            kind,
+            &kept[Stream::HEADER..to],
+            line,
+        );
+        let port = recorded.port;
+        let next = stream.index + 1;
         return Fed {
             stream: Stream {
-                port: after,
-                index: g.index + 1,
+                port: port,
+                index: next,
                 have: 0,
                 done: false,
             },
-            used: t.used,
-            length: r.length,
+            used: taken.used,
+            length: recorded.length,
         };
     }
     Fed {
         stream: Stream {
-            port: port,
-            index: g.index,
-            have: t.have,
-            done: t.done,
+            have: taken.have,
+            done: taken.done,
+            ..stream
         },
-        used: t.used,
-        length: t.length,
+        used: taken.used,
+        length: taken.length,
     }
 }
 
 // the next bytes of the input, up to the end of a record
 pub fn feed(
-    g: Stream,
+    stream: Stream,
     bytes: &mut [u8],
     marks: &mut [u8],
     out: &mut [u8],
@@ -178,9 +195,9 @@ pub fn feed(
     piece: &[u8],
     line: &mut [u8],
 ) -> Fed
-    ensures { λ r. ⌜ FeedsLent g bytes marks out kept piece line r ⌝ }
+    ensures { λ r. ⌜ FeedsLent stream bytes marks out kept piece line r ⌝ }
 {
-    advance(g, bytes, marks, out, kept, piece, line)
+    advance(stream, bytes, marks, out, kept, piece, line)
 }
 
 // the lines of the whole input from a fresh port, as much of them as dst holds
@@ -191,12 +208,12 @@ pub fn whole(input: &[u8], dst: &mut [u8]) -> usize
     let mut marks = [0u8; Port::INPUT];
     let mut out = [0u8; Port::OUTPUT];
     let mut kept = [0u8; Stream::KEPT];
-    let mut s = Stream::start();
+    let mut stream = Stream::start();
     let mut at = 0;
     let mut written = 0;
     while at < input.len() {
-        let f = feed(
-            s,
+        let fed = feed(
+            stream,
             &mut bytes,
             &mut marks,
             &mut out,
@@ -204,10 +221,10 @@ pub fn whole(input: &[u8], dst: &mut [u8]) -> usize
             &input[at..],
             &mut dst[written..],
         );
-        s = f.stream;
-        at += f.used;
-        written += f.length;
+        stream = fed.stream;
+        at += fed.used;
+        written += fed.length;
     }
-    let k = finish(s, &kept, &mut dst[written..]);
-    written + k
+    let length = finish(stream, &kept, &mut dst[written..]);
+    written + length
 }

@@ -16,9 +16,10 @@ use Rattle.rules.proofs.OutputLaws.{append-nil}
 use Rattle.trace.specs.gathering.Contract.{sizeOf, kindOf, bodyOf, isOpen, come, pending}
 use Rattle.rules.proofs.asking.Laws.{long-malformed}
 use Rattle.trace.proofs.gathering.Rules.{trace-short, trace-cut, trace-record, blind}
+use Rattle.trace.specs.Numbers.{header, mostBody, mostKept}
 
 -- a list of four and more
-by-four : (P : List ℕ → Type 0) (l : List ℕ) → 4 ≤ length l → ((a b c d : ℕ) (k : List ℕ) → P (a ∷ b ∷ c ∷ d ∷ k)) → P l
+by-four : (P : List ℕ → Type 0) (l : List ℕ) → header ≤ length l → ((a b c d : ℕ) (k : List ℕ) → P (a ∷ b ∷ c ∷ d ∷ k)) → P l
 by-four P [] le f = absurd (omega arith)
 by-four P (a ∷ []) le f = absurd (omega arith)
 by-four P (a ∷ b ∷ []) le f = absurd (omega arith)
@@ -68,14 +69,14 @@ module _ (z : Sizes) (m i : ℕ) (s : State) where
       ∙ ap (λ (y : List ℕ). y ++ x) (sym two)
 
   -- beyond the places kept: what the byte is, is of no account
-  next-long : (kept : List ℕ) (have b : ℕ) (x : List ℕ) → length kept ≡ 517 → 517 ≤ have → have < sizeOf kept
+  next-long : (kept : List ℕ) (have b : ℕ) (x : List ℕ) → length kept ≡ mostKept → mostKept ≤ have → have < sizeOf kept
       → traceFrom z m i s (come kept have ++ (b ∷ x)) ≡ traceFrom z m i s (come kept (have + 1) ++ x)
   next-long kept have b x e le lt =
       by-four
-      (λ l. length l ≡ 517 → have < sizeOf l → traceFrom z m i s (come l have ++ (b ∷ x)) ≡ traceFrom z m i s (come l (have + 1) ++ x))
+      (λ l. length l ≡ mostKept → have < sizeOf l → traceFrom z m i s (come l have ++ (b ∷ x)) ≡ traceFrom z m i s (come l (have + 1) ++ x))
       kept (omega arith) at e lt
     where
-      at : (a₀ a₁ a₂ a₃ : ℕ) (k : List ℕ) → length (a₀ ∷ a₁ ∷ a₂ ∷ a₃ ∷ k) ≡ 517 → have < sizeOf (a₀ ∷ a₁ ∷ a₂ ∷ a₃ ∷ k)
+      at : (a₀ a₁ a₂ a₃ : ℕ) (k : List ℕ) → length (a₀ ∷ a₁ ∷ a₂ ∷ a₃ ∷ k) ≡ mostKept → have < sizeOf (a₀ ∷ a₁ ∷ a₂ ∷ a₃ ∷ k)
           → traceFrom z m i s (come (a₀ ∷ a₁ ∷ a₂ ∷ a₃ ∷ k) have ++ (b ∷ x)) ≡ traceFrom z m i s (come (a₀ ∷ a₁ ∷ a₂ ∷ a₃ ∷ k) (have + 1) ++ x)
       at a₀ a₁ a₂ a₃ k e lt =
           let l : List ℕ = a₀ ∷ a₁ ∷ a₂ ∷ a₃ ∷ k in
@@ -91,24 +92,24 @@ module _ (z : Sizes) (m i : ℕ) (s : State) where
           ∙ blind z i s a₀ a₁ a₂ a₃ p q x (omega (arith, long-p, long-q)) (omega (arith, long-p)) (omega (arith, long-p)) m
           ∙ ap (λ (y : List ℕ). traceFrom z m i s ((y ++ zeros (have + 1 - length l)) ++ x)) (sym (take-all (have + 1) l (omega arith)))
 
-  pub next-byte : (kept : List ℕ) (have b : ℕ) (x : List ℕ) → length kept ≡ 517 → have < sizeOf kept
+  pub next-byte : (kept : List ℕ) (have b : ℕ) (x : List ℕ) → length kept ≡ mostKept → have < sizeOf kept
       → traceFrom z m i s (come kept have ++ (b ∷ x)) ≡ traceFrom z m i s (come (set kept have b) (have + 1) ++ x)
-  next-byte kept have b x e lt = ⊎-elim here past (lt-or-le have 517)
+  next-byte kept have b x e lt = ⊎-elim here past (lt-or-le have mostKept)
     where
-      here : have < 517 → traceFrom z m i s (come kept have ++ (b ∷ x)) ≡ traceFrom z m i s (come (set kept have b) (have + 1) ++ x)
+      here : have < mostKept → traceFrom z m i s (come kept have ++ (b ∷ x)) ≡ traceFrom z m i s (come (set kept have b) (have + 1) ++ x)
       here h = ap (λ (y : List ℕ). traceFrom z m i s y) (next-kept kept have b x (omega arith))
 
-      past : 517 ≤ have → traceFrom z m i s (come kept have ++ (b ∷ x)) ≡ traceFrom z m i s (come (set kept have b) (have + 1) ++ x)
+      past : mostKept ≤ have → traceFrom z m i s (come kept have ++ (b ∷ x)) ≡ traceFrom z m i s (come (set kept have b) (have + 1) ++ x)
       past h = next-long kept have b x e h lt ∙ ap (λ (y : List ℕ). traceFrom z m i s (come y (have + 1) ++ x)) (sym (set-out kept have b (omega arith)))
 
 -- the size stays as it is once the header is there
 pub next-upto : (kept : List ℕ) (have b : ℕ) → have < sizeOf kept → have + 1 ≤ sizeOf (set kept have b)
-next-upto kept have b lt = ⊎-elim short long (lt-or-le have 4)
+next-upto kept have b lt = ⊎-elim short long (lt-or-le have header)
   where
-    short : have < 4 → have + 1 ≤ sizeOf (set kept have b)
+    short : have < header → have + 1 ≤ sizeOf (set kept have b)
     short h = omega arith
 
-    long : 4 ≤ have → have + 1 ≤ sizeOf (set kept have b)
+    long : header ≤ have → have + 1 ≤ sizeOf (set kept have b)
     long h =
         omega (arith, ap₂ (λ (x y : ℕ). two x y) (getD-set-other kept have 0 b 0 (λ e. omega arith)) (getD-set-other kept have 1 b 0 (λ e. omega arith)))
 
@@ -122,58 +123,61 @@ module _ (z : Sizes) (m i : ℕ) (s : State) (x : List ℕ) where
       ++ traceFrom z m (suc i) (answered z s (decode (kindOf kept) (bodyOf kept)) .0) x
 
   abbrev body-of : ℕ → ℕ → ℕ → ℕ → List ℕ → List ℕ
-  body-of a b c d k = take (two a b) k ++ zeros (4 + two a b - length (a ∷ b ∷ c ∷ d ∷ k))
+  body-of a b c d k = take (two a b) k ++ zeros (header + two a b - length (a ∷ b ∷ c ∷ d ∷ k))
 
-  at-size : (a b c d : ℕ) (k : List ℕ) → length (a ∷ b ∷ c ∷ d ∷ k) ≡ 517 → Printed (a ∷ b ∷ c ∷ d ∷ k)
+  at-size : (a b c d : ℕ) (k : List ℕ) → length (a ∷ b ∷ c ∷ d ∷ k) ≡ mostKept → Printed (a ∷ b ∷ c ∷ d ∷ k)
   at-size a b c d k e =
       let l : List ℕ = a ∷ b ∷ c ∷ d ∷ k in
       let n : ℕ = two a b in
       let kind : ℕ = two c d in
       let body : List ℕ = body-of a b c d k in
       let long : length body ≡ n =
-      length-append (take n k) (zeros (4 + n - length l)) ∙ omega (arith, length-take n k, length-replicate {A = ℕ} (4 + n - length l) 0) in
-      let same : decode kind body ≡ decode kind (take (min n 513) k) = ⊎-elim (all-long long) all-kept (lt-or-le 513 n) in
-      ap (λ (y : List ℕ). traceFrom z (suc m) i s ((y ++ zeros (4 + n - length l)) ++ x)) (take-add 4 n l)
+      length-append (take n k) (zeros (header + n - length l)) ∙ omega (arith, length-take n k, length-replicate {A = ℕ} (header + n - length l) 0) in
+      let same : decode kind body ≡ decode kind (take (min n mostBody) k) = ⊎-elim (all-long long) all-kept (lt-or-le mostBody n) in
+      ap (λ (y : List ℕ). traceFrom z (suc m) i s ((y ++ zeros (header + n - length l)) ++ x)) (take-add header n l)
       ∙ trace-record z i s m a b c d (body ++ x) (omega (arith, length-append body x, long))
       ∙ ap₂ (λ (y r : List ℕ). line i kind (answered z s (decode kind y) .1) ++ traceFrom z m (suc i) (answered z s (decode kind y) .0) r)
       (take-at body x n long) (drop-at body x n long)
       ∙ ap (λ (v : trace.Decoded). line i kind (answered z s v .1) ++ traceFrom z m (suc i) (answered z s v .0) x) same
     where
-      all-long : length (body-of a b c d k) ≡ two a b → 513 < two a b → decode (two c d) (body-of a b c d k) ≡ decode (two c d) (take (min (two a b) 513) k)
+      all-long : length (body-of a b c d k) ≡ two a b → mostBody < two a b
+          → decode (two c d) (body-of a b c d k) ≡ decode (two c d) (take (min (two a b) mostBody) k)
       all-long long lt =
           long-malformed (two c d) (body-of a b c d k) (omega (arith, long))
-          ∙ sym (long-malformed (two c d) (take (min (two a b) 513) k) (omega (arith, length-take (min (two a b) 513) k)))
+          ∙ sym (long-malformed (two c d) (take (min (two a b) mostBody) k) (omega (arith, length-take (min (two a b) mostBody) k)))
 
-      all-kept : two a b ≤ 513 → decode (two c d) (body-of a b c d k) ≡ decode (two c d) (take (min (two a b) 513) k)
+      all-kept : two a b ≤ mostBody → decode (two c d) (body-of a b c d k) ≡ decode (two c d) (take (min (two a b) mostBody) k)
       all-kept le =
-          let none : 4 + two a b - length (a ∷ b ∷ c ∷ d ∷ k) ≡ 0 = omega arith in
-          let least : two a b ≡ min (two a b) 513 = omega arith in
+          let none : header + two a b - length (a ∷ b ∷ c ∷ d ∷ k) ≡ 0 = omega arith in
+          let least : two a b ≡ min (two a b) mostBody = omega arith in
           ap (λ (y : List ℕ). decode (two c d) y)
           (ap (λ (j : ℕ). take (two a b) k ++ zeros j) none ∙ append-nil (take (two a b) k) ∙ ap (λ (j : ℕ). take j k) least)
 
-  pub whole-record : (kept : List ℕ) → length kept ≡ 517 → Printed kept
-  whole-record kept e = by-four (λ l. length l ≡ 517 → Printed l) kept (omega arith) at-size e
+  pub whole-record : (kept : List ℕ) → length kept ≡ mostKept → Printed kept
+  whole-record kept e = by-four (λ l. length l ≡ mostKept → Printed l) kept (omega arith) at-size e
 
 ---- The input ends
 
 module _ (z : Sizes) (m i : ℕ) (s : State) where
-  pub cut-short : (kept : List ℕ) (have : ℕ) → length kept ≡ 517 → 0 < have → have < sizeOf kept → traceFrom z (suc m) i s (come kept have) ≡ cutLine i
-  cut-short kept have e some lt = ⊎-elim short long (lt-or-le have 4)
+  pub cut-short : (kept : List ℕ) (have : ℕ) → length kept ≡ mostKept → 0 < have → have < sizeOf kept → traceFrom z (suc m) i s (come kept have) ≡ cutLine i
+  cut-short kept have e some lt = ⊎-elim short long (lt-or-le have header)
     where
-      short : have < 4 → traceFrom z (suc m) i s (come kept have) ≡ cutLine i
+      short : have < header → traceFrom z (suc m) i s (come kept have) ≡ cutLine i
       short h = trace-short z i s m (come kept have) (λ n. omega (arith, come-long kept have)) (omega (arith, come-long kept have))
 
-      at : (a b c d : ℕ) (k : List ℕ) → length (a ∷ b ∷ c ∷ d ∷ k) ≡ 517 → 4 ≤ have → have < sizeOf (a ∷ b ∷ c ∷ d ∷ k)
+      at : (a b c d : ℕ) (k : List ℕ) → length (a ∷ b ∷ c ∷ d ∷ k) ≡ mostKept → header ≤ have → have < sizeOf (a ∷ b ∷ c ∷ d ∷ k)
           → traceFrom z (suc m) i s (come (a ∷ b ∷ c ∷ d ∷ k) have) ≡ cutLine i
       at a b c d k e le lt =
           let l : List ℕ = a ∷ b ∷ c ∷ d ∷ k in
-          let h : have ≡ 4 + (have - 4) = omega arith in
-          let body : List ℕ = take (have - 4) k ++ zeros (have - length l) in
-          let long : length body ≡ have - 4 =
-          length-append (take (have - 4) k) (zeros (have - length l))
-          ∙ omega (arith, length-take (have - 4) k, length-replicate {A = ℕ} (have - length l) 0) in
-          ap (λ (y : List ℕ). traceFrom z (suc m) i s (y ++ zeros (have - length l))) (ap (λ (j : ℕ). take j l) h ∙ take-add 4 (have - 4) l)
+          let h : have ≡ header + (have - header) = omega arith in
+          let body : List ℕ = take (have - header) k ++ zeros (have - length l) in
+          let long : length body ≡ have - header =
+          length-append (take (have - header) k) (zeros (have - length l))
+          ∙ omega (arith, length-take (have - header) k, length-replicate {A = ℕ} (have - length l) 0) in
+          ap (λ (y : List ℕ). traceFrom z (suc m) i s (y ++ zeros (have - length l))) (ap (λ (j : ℕ). take j l) h ∙ take-add header (have - header) l)
           ∙ trace-cut z i s m a b c d body (omega (arith, long))
 
-      long : 4 ≤ have → traceFrom z (suc m) i s (come kept have) ≡ cutLine i
-      long h = by-four (λ l. length l ≡ 517 → 4 ≤ have → have < sizeOf l → traceFrom z (suc m) i s (come l have) ≡ cutLine i) kept (omega arith) at e h lt
+      long : header ≤ have → traceFrom z (suc m) i s (come kept have) ≡ cutLine i
+      long h =
+          by-four (λ l. length l ≡ mostKept → header ≤ have → have < sizeOf l → traceFrom z (suc m) i s (come l have) ≡ cutLine i)
+          kept (omega arith) at e h lt

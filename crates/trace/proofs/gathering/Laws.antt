@@ -13,20 +13,21 @@ use Rattle.rules.specs.Sizes.{Sizes, State}
 use Rattle.rules.specs.Trace.{two, traceFrom}
 use Rattle.trace.specs.gathering.Contract.{sizeOf, isOpen, come, pending, Gathers}
 use Rattle.trace.proofs.gathering.Keeping.{come-short, next-byte, next-upto}
+use Rattle.trace.specs.Numbers.{header, mostKept, mostSize}
 
 ---- is_open, begun
 
 pub open-as : (kept : List ℕ) (have n : ℕ) → n ≡ two (getD kept 0 0) (getD kept 1 0) → n < 65536
-    → (ltb have (4 + n) ≡ isOpen kept have) × (ltb have (4 + n) ≡ true → have < 65539)
-open-as kept have n e lt = (ap (λ (k : ℕ). ltb have (4 + k)) e, λ t. omega (arith, ltb-true have (4 + n) t))
+    → (ltb have (header + n) ≡ isOpen kept have) × (ltb have (header + n) ≡ true → have < mostSize)
+open-as kept have n e lt = (ap (λ (k : ℕ). ltb have (header + k)) e, λ t. omega (arith, ltb-true have (header + n) t))
 
 module _ (kept : List ℕ) (have : ℕ) where
-  pub begun-open : (t : Bool) → (t ≡ isOpen kept have) × (t ≡ true → have < 65539) → t ≡ true
-      → (have ≡ cond (isOpen kept have) have 0) × (have < 65539)
+  pub begun-open : (t : Bool) → (t ≡ isOpen kept have) × (t ≡ true → have < mostSize) → t ≡ true
+      → (have ≡ cond (isOpen kept have) have 0) × (have < mostSize)
   begun-open t h e = (sym (ap (λ (y : Bool). cond y have 0) (sym (h .0) ∙ e)), h .1 e)
 
-  pub begun-none : (t : Bool) → (t ≡ isOpen kept have) × (t ≡ true → have < 65539) → t ≡ false
-      → (0 ≡ cond (isOpen kept have) have 0) × (0 < 65539)
+  pub begun-none : (t : Bool) → (t ≡ isOpen kept have) × (t ≡ true → have < mostSize) → t ≡ false
+      → (0 ≡ cond (isOpen kept have) have 0) × (0 < mostSize)
   begun-none t h e = (sym (ap (λ (y : Bool). cond y have 0) (sym (h .0) ∙ e)), omega arith)
 
 -- what has begun is open, and its bytes are those that are pending
@@ -56,14 +57,14 @@ pub record Gathering (kept₀ : List ℕ) (have : ℕ) (piece : List ℕ) (at : 
   pub used : at ≤ length piece
   pub first : at ≡ 0 → kept ≡ kept₀
   pub upto : have + at ≤ sizeOf kept
-  pub low : have + at < 65540
-  pub long : length kept ≡ 517
+  pub low : have + at ≤ mostSize
+  pub long : length kept ≡ mostKept
   pub same : (z : Sizes) (m i : ℕ) (s : State) (rest : List ℕ)
       → traceFrom z m i s (come kept₀ have ++ (piece ++ rest)) ≡ traceFrom z m i s (come kept (have + at) ++ (drop at piece ++ rest))
 
-pub gathering-begins : (kept : List ℕ) (have : ℕ) (piece : List ℕ) → length kept ≡ 517 → isOpen kept have ≡ true → have < 65539
+pub gathering-begins : {kept : List ℕ} {have : ℕ} {piece : List ℕ} → length kept ≡ mostKept → isOpen kept have ≡ true → have < mostSize
     → Gathering kept have piece 0 kept
-gathering-begins kept have piece e o lt =
+gathering-begins {kept} {have} {piece} e o lt =
     record {
       used = omega arith;
       first = λ n. refl;
@@ -76,11 +77,11 @@ gathering-begins kept have piece e o lt =
     none : have ≡ have + 0
     none = omega arith
 
-module _ (kept₀ : List ℕ) (have : ℕ) (piece : List ℕ) (at : ℕ) (kept : List ℕ) (h : Gathering kept₀ have piece at kept) where
-  pub gathering-next : (b : ℕ) (t : Bool) (kept′ : List ℕ) → at < length piece → b ≡ getD piece at 0
-      → (t ≡ isOpen kept (have + at)) × (t ≡ true → have + at < 65539) → t ≡ true → kept′ ≡ set kept (have + at) b
+module _ {kept₀ : List ℕ} {have : ℕ} {piece : List ℕ} {at : ℕ} {kept : List ℕ} (h : Gathering kept₀ have piece at kept) where
+  pub gathering-next : {b : ℕ} {t : Bool} {kept′ : List ℕ} → at < length piece → b ≡ getD piece at 0
+      → (t ≡ isOpen kept (have + at)) × (t ≡ true → have + at < mostSize) → t ≡ true → kept′ ≡ set kept (have + at) b
       → Gathering kept₀ have piece (at + 1) kept′
-  gathering-next b t kept′ lt eb ht e ek =
+  gathering-next {b} lt eb ht e ek =
       let o : have + at < sizeOf kept = ltb-true (have + at) (sizeOf kept) (sym (ht .0) ∙ e) in
       let sum : have + at + 1 ≡ have + (at + 1) = omega arith in
       record {
@@ -99,9 +100,9 @@ module _ (kept₀ : List ℕ) (have : ℕ) (piece : List ℕ) (at : ℕ) (kept :
       }
 
   -- the record is complete
-  pub gathered-all : (t : Bool) → isOpen kept₀ have ≡ true → (t ≡ isOpen kept (have + at)) × (t ≡ true → have + at < 65539) → t ≡ false
+  pub gathered-all : {t : Bool} → isOpen kept₀ have ≡ true → (t ≡ isOpen kept (have + at)) × (t ≡ true → have + at < mostSize) → t ≡ false
       → Gathers kept₀ have piece at kept
-  gathered-all t o ht e =
+  gathered-all o ht e =
       record {
         used = h .used;
         further = λ some. by-at at refl;

@@ -14,6 +14,7 @@ use Rattle.rules.specs.Refusals.{Reply}
 use Rattle.rules.specs.Trace as trace
 use Rattle.rules.proofs.asking.Laws.{long-malformed}
 use Rattle.rules.specs.Trace.{malformed, Front, nothing, cut, aRecord, front, two, decode, answered, line, cutLine, fullLine, traceFrom}
+use Rattle.trace.specs.Numbers.{header, mostBody}
 
 -- the lines for what stands at the front
 abbrev pub fronted : Sizes → ℕ → ℕ → State → Front → List ℕ
@@ -49,7 +50,7 @@ module _ (z : Sizes) (i : ℕ) (s : State) where
   trace-full zero (b ∷ l) e some = refl
   trace-full (suc m) l e some = absurd (omega arith)
 
-  pub trace-short : (m : ℕ) (l : List ℕ) → (length l ≡ 0 → ⊥) → length l < 4 → traceFrom z (suc m) i s l ≡ cutLine i
+  pub trace-short : (m : ℕ) (l : List ℕ) → (length l ≡ 0 → ⊥) → length l < header → traceFrom z (suc m) i s l ≡ cutLine i
   trace-short m [] some lt = absurd (some refl)
   trace-short m (a ∷ []) some lt = by-front z m i s (a ∷ [])
   trace-short m (a ∷ b ∷ []) some lt = by-front z m i s (a ∷ b ∷ [])
@@ -79,7 +80,8 @@ drop-past p rest n le =
     let e : n ≡ length p + (n - length p) = omega arith in
     ap (λ (k : ℕ). drop k (p ++ rest)) e ∙ drop-append-add p rest (n - length p)
 
-module _ (z : Sizes) (i : ℕ) (s : State) (a b c d : ℕ) (p q rest : List ℕ) (e : length p ≡ length q) (many : 513 ≤ length p) (le : length p ≤ two a b) where
+module _ (z : Sizes) (i : ℕ) (s : State) (a b c d : ℕ) (p q rest : List ℕ) (e : length p ≡ length q)
+    (many : mostBody ≤ length p) (le : length p ≤ two a b) where
   abbrev size : ℕ
   size = two a b
 
@@ -89,7 +91,7 @@ module _ (z : Sizes) (i : ℕ) (s : State) (a b c d : ℕ) (p q rest : List ℕ)
   behind : drop size (p ++ rest) ≡ drop size (q ++ rest)
   behind = drop-past p rest size le ∙ ap (λ (k : ℕ). drop (size - k) rest) e ∙ sym (drop-past q rest size (subst (λ (k : ℕ). k ≤ size) e le))
 
-  malformed-at : (l : List ℕ) → 513 ≤ length l → size ≤ length (l ++ rest) → 513 ≤ size → decode (two c d) (take size (l ++ rest)) ≡ malformed
+  malformed-at : (l : List ℕ) → mostBody ≤ length l → size ≤ length (l ++ rest) → mostBody ≤ size → decode (two c d) (take size (l ++ rest)) ≡ malformed
   malformed-at l lo up enough = long-malformed (two c d) (take size (l ++ rest)) (omega (arith, length-take size (l ++ rest)))
 
   pub blind : (m : ℕ) → traceFrom z m i s (a ∷ b ∷ c ∷ d ∷ (p ++ rest)) ≡ traceFrom z m i s (a ∷ b ∷ c ∷ d ∷ (q ++ rest))

@@ -7,10 +7,10 @@ use Rattle.trace.proofs.load.Statement.{statement}
 use Rattle.trace.proofs.load.Tie as tie
 
 abbrev Inv-loop : tie.InvT-loop
-Inv-loop lent₀ body n most k i₀ lent i = Loading lent₀ body k i lent
+Inv-loop lent₀ body n most k at₀ lent at = Loading lent₀ body k at lent
 
 abbrev μ-loop : tie.MeasureT-loop
-μ-loop lent₀ body n most k i₀ lent i = k - i
+μ-loop lent₀ body n most k at₀ lent at = k - at
 
 least-requires : tie.Need-least-requires Inv-loop μ-loop
 least-requires c κs = search needs
@@ -19,54 +19,32 @@ least-requires-2 : tie.Need-least-requires-2 Inv-loop μ-loop
 least-requires-2 c κs = search needs
 
 loop-holds : tie.Need-loop-holds Inv-loop μ-loop
-loop-holds c =
-    let start = c .before .before .before .before in
-    loading-begins (start .args .lent .now) (start .args .body .now) (start .args .n) (c .before .least .result) (c .least2 .result)
-    (c .before .least .ensures) (c .least2 .ensures)
+loop-holds c = loading-begins (c .before .before .before .before .args .n) (c .before .least .ensures) (c .least2 .ensures)
 
 shared-slice-read-lent : tie.Need-shared-slice-read-lent Inv-loop μ-loop
 shared-slice-read-lent c = omega (arith, c .before .before .loop .inv .most, c .before .loop-test .taken)
 
 slice-write-lent : tie.Need-slice-write-lent Inv-loop μ-loop
 slice-write-lent c =
-    let at-loop = c .before .before .loop in
-    let at-least2 = c .before .before .before .least2 in
-    let start = c .before .before .before .before .before .before .before in
-    omega (
-      arith,
-      at-loop .inv .most,
-      c .before .loop-test .taken,
-      loading-size (start .args .lent .now) (start .args .body .now) (at-least2 .result)
-          (at-loop .i) (at-loop .lent) (at-loop .inv),
-    )
+    let loop = c .before .before .loop in
+    omega (arith, loop .inv .most, c .before .loop-test .taken, loading-size (loop .inv))
 
-add-i : tie.Need-add-i Inv-loop μ-loop
-add-i c = omega arith
+add-at : tie.Need-add-at Inv-loop μ-loop
+add-at c = omega arith
 
 loop-less : tie.Need-loop-less Inv-loop μ-loop
 loop-less c = omega arith
 
 loop-again : tie.Need-loop-again Inv-loop μ-loop
-loop-again c =
-    let at-loop = c .before .before .loop in
-    let at-least2 = c .before .before .before .least2 in
-    let start = c .before .before .before .before .before .before .before in
-    loading-next (start .args .lent .now) (start .args .body .now) (at-least2 .result) (at-loop .i) (at-loop .lent) (at-loop .inv)
-    (c .before .loop-test .taken)
+loop-again c = loading-next (c .before .before .loop .inv) (c .before .loop-test .taken)
 
 same-length : tie.Need-same-length Inv-loop μ-loop
-same-length c =
-    let at-least2 = c .before .before .least2 in
-    let start = c .before .before .before .before .before .before in
-    loading-size (start .args .lent .now) (start .args .body .now) (at-least2 .result) (c .before .loop .i) (c .before .loop .lent) (c .before .loop .inv)
+same-length c = loading-size (c .before .loop .inv)
 
 returns : tie.Need-returns Inv-loop μ-loop
 returns c =
-    let at-least2 = c .before .before .least2 in
-    let at-least = c .before .before .before .least in
-    let start = c .before .before .before .before .before .before in
-    loaded (start .args .lent .now) (start .args .body .now) (start .args .n) (at-least .result) (at-least2 .result) (c .before .loop .i)
-    (c .before .loop .lent) (at-least .ensures) (at-least2 .ensures) (c .before .loop .inv) (c .loop-test .left)
+    let least = c .before .before .before in
+    loaded (least .before .before .before .args .n) (least .least .ensures) (c .before .before .least2 .ensures) (c .before .loop .inv) (c .loop-test .left)
 
 pub load-spec : {M : Type 1} → statement M
 load-spec =
@@ -79,7 +57,7 @@ load-spec =
     loop-holds
     shared-slice-read-lent
     slice-write-lent
-    add-i
+    add-at
     loop-less
     loop-again
     same-length

@@ -17,8 +17,8 @@ array-share-prefix-lent c = search needs
 
 slice-aggregate-put-line : tie.Need-slice-aggregate-put-line
 slice-aggregate-put-line c =
-    let at-carry = c .before .before .before .before .before .before .before .before .before .before .before .carry in
-    sym (length-take-le ((at-carry .result) .given) (at-carry .last .1 .1 .1 .1 .1 .1 .0) ((at-carry .ensures) .upto))
+    let carry = c .before .before .before .before .before .before .before .before .before .before .before .carry in
+    sym (length-take-le (carry .result .given) (carry .last .1 .1 .1 .1 .1 .1 .0) (carry .ensures .upto))
 
 put-line-requires : tie.Need-put-line-requires
 put-line-requires c κs = search needs
@@ -37,13 +37,9 @@ same-length-4 c = search needs
 
 returns : tie.Need-returns
 returns c =
-    let back = c .before .before .before .before .before .before .before .before .before .before .before .before in
-    let at-put-line = c .before .before .put-line in
-    let at-carry = back .before .before .carry in
-    let start = back .before .before .before .before .before .before .before .before .before .before .before .before in
-    recorded (start .args .p) (start .args .bytes .now) (start .args .marks .now) (start .args .out .now) (start .args .index) (start .args .kind)
-    (start .args .body .now) (start .args .line .now) (at-put-line .last .0) (at-carry .result) (at-put-line .result) (at-carry .last .1 .0)
-    (at-carry .last .1 .1 .0) (at-carry .last .1 .1 .1 .0) (at-carry .last .1 .1 .1 .1 .1 .1 .0) (at-carry .ensures) (at-put-line .ensures)
+    let put = c .before .before in
+    let carry = put .before .before .before .before .before .before .before .before .before .before .before .before .carry in
+    recorded (carry .ensures) (put .put-line .ensures)
 
 pub record-spec : {M : Type 1} → statement M
 record-spec =

@@ -27,6 +27,7 @@ use Rattle.input.proofs.reading.FirstLine.{line-count, bytes-count}
 use Rattle.rules.specs.asking.Asking.{Asked}
 use Rattle.rules.proofs.asking.Laws.{asked-of}
 use Rattle.trace.proofs.Laws.{handed-count}
+use Rattle.trace.specs.Numbers.{mostLent, mostLine}
 
 pub digits-short : (k n : ℕ) → length (digits k n) ≤ k
 digits-short zero n = omega arith
@@ -36,10 +37,10 @@ digits-short (suc k) n = by (ltb n 10) (digits-short k (n / 10))
     by true le = omega arith
     by false le = omega (arith, length-append (digits k (n / 10)) ((48 + n % 10) ∷ []))
 
-pub cut-at-most : (i : ℕ) → length (cutLine i) ≤ 4123
+pub cut-at-most : (i : ℕ) → length (cutLine i) ≤ mostLine
 cut-at-most i = omega (arith, length-append (decimal i) (text " cut\n"), digits-short 5 i)
 
-pub full-at-most : (i : ℕ) → length (fullLine i) ≤ 4123
+pub full-at-most : (i : ℕ) → length (fullLine i) ≤ mostLine
 full-at-most i = omega (arith, length-append (decimal i) (text " full\n"), digits-short 5 i)
 
 ---- No line has more than 4,123 bytes. Assumes nothing
@@ -86,7 +87,7 @@ module _ (z : Sizes) (s : State) (l : List ℕ) where
   handed-short (WriteVerdict p) = omega (arith, handed-count z s l (WriteVerdict p))
   handed-short (SettingsVerdict p) = omega (arith, handed-count z s l (SettingsVerdict p))
 
-answered-short : (z : Sizes) (s : State) (kind : ℕ) (body : List ℕ) (x : trace.Decoded) → Asked kind body x → length (handed (answered z s x .1)) ≤ 2048
+answered-short : (z : Sizes) (s : State) (kind : ℕ) (body : List ℕ) (x : trace.Decoded) → Asked kind body x → length (handed (answered z s x .1)) ≤ mostLent
 answered-short z s kind body (wellFormed a) b = omega (arith, handed-short z s (a .lent) (a .call), b .few)
 answered-short z s kind body malformed b = omega arith
 
@@ -115,7 +116,7 @@ hex-length : (l : List ℕ) → length (hex l) ≡ length l + length l
 hex-length [] = refl
 hex-length (b ∷ l) = omega (arith, hex-length l)
 
-hex-short : (l : List ℕ) → length l ≤ 2048 → length (hexOrDash l) ≤ 4096
+hex-short : (l : List ℕ) → length l ≤ mostLent → length (hexOrDash l) ≤ 4096
 hex-short [] le = omega arith
 hex-short (b ∷ l) le = omega (arith, hex-length (b ∷ l))
 
@@ -136,7 +137,7 @@ ten a b c d e f g h i j =
       length-append (a ++ b ++ c ++ d ++ e ++ f ++ g ++ h ++ i) j,
     )
 
-reply-short : (i k : ℕ) (r : Reply) → length (handed r) ≤ 2048 → length (line i k r) ≤ 4123
+reply-short : (i k : ℕ) (r : Reply) → length (handed r) ≤ mostLent → length (line i k r) ≤ mostLine
 reply-short i k r le =
     omega (
       arith,
@@ -149,6 +150,6 @@ reply-short i k r le =
       hex-short (handed r) le,
     )
 
-pub line-at-most : (z : Sizes) (s : State) (i kind : ℕ) (body : List ℕ) → length (line i kind (answered z s (decode kind body) .1)) ≤ 4123
+pub line-at-most : (z : Sizes) (s : State) (i kind : ℕ) (body : List ℕ) → length (line i kind (answered z s (decode kind body) .1)) ≤ mostLine
 line-at-most z s i kind body =
     reply-short i kind (answered z s (decode kind body) .1) (answered-short z s kind body (decode kind body) (asked-of kind body))

@@ -16,6 +16,7 @@ use Rattle.trace.specs.declared.stream.Fed.{Fed}
 use Rattle.trace.specs.stream.Contract.{future, left, beginning, Feeds}
 use Rattle.trace.proofs.stream.Laws.{at-end}
 use Rattle.trace.proofs.stream.Pieces.{future-begins}
+use Rattle.trace.specs.Numbers.{mostKept}
 
 ---- A line more in the buffer
 
@@ -107,9 +108,9 @@ pub record Running (input d₀ bs ms os kept dst : List ℕ) (s : Stream) (at w 
   pub marks : length ms ≡ 1024
   pub out : length os ≡ 2048
 
-pub running-begins : (input d₀ bs ms os kept : List ℕ) (s : Stream) → s ≡ beginning → length bs ≡ 1024 → length ms ≡ 1024 → length os ≡ 2048
+pub running-begins : {input d₀ bs ms os kept : List ℕ} {s : Stream} → s ≡ beginning → length bs ≡ 1024 → length ms ≡ 1024 → length os ≡ 2048
     → Running input d₀ bs ms os kept d₀ s 0 0
-running-begins input d₀ bs ms os kept s e eb em eo =
+running-begins {input} {d₀} {bs} {ms} {os} {kept} e eb em eo =
     record {
       text = [];
       buffer = sym (ap (λ (y : List ℕ). y ++ d₀) (take-nil (length d₀)));
@@ -121,7 +122,7 @@ running-begins input d₀ bs ms os kept s e eb em eo =
       out = eo;
     }
 
-module _ (input d₀ bs ms os kept dst : List ℕ) (s : Stream) (at w : ℕ) (h : Running input d₀ bs ms os kept dst s at w) where
+module _ {input d₀ bs ms os kept dst : List ℕ} {s : Stream} {at w : ℕ} (h : Running input d₀ bs ms os kept dst s at w) where
   pub running-size : length dst ≡ length d₀
   running-size = ap length (h .buffer) ∙ long-holding d₀ (h .text) []
 
@@ -139,11 +140,11 @@ module _ (input d₀ bs ms os kept dst : List ℕ) (s : Stream) (at w : ℕ) (h 
         ap (λ (j : ℕ). j + k) (h .written) ∙ b .1,
       )
 
-  pub running-next : (r : Fed) (bs′ ms′ os′ kept′ m : List ℕ) → at < length input → length bs′ ≡ length bs → length ms′ ≡ length ms → length os′ ≡ length os
+  pub running-next : {r : Fed} {bs′ ms′ os′ kept′ m : List ℕ} → at < length input → length bs′ ≡ length bs → length ms′ ≡ length ms → length os′ ≡ length os
       → Feeds s bs ms os kept (take (length input - at) (drop at input)) (take (length dst - w) (drop w dst)) r bs′ ms′ os′ kept′ m
       → Running input d₀ bs′ ms′ os′ kept′ (putMid w (length dst - w) dst m) (r .stream) (at + r .used) (w + r .length)
       × (length input - (at + r .used) < length input - at)
-  running-next r bs′ ms′ os′ kept′ m lt eb em eo f =
+  running-next {r} {bs′} {ms′} {os′} {kept′} {m} lt eb em eo f =
       let all : take (length input - at) (drop at input) ≡ drop at input =
       take-all (length input - at) (drop at input) (omega (arith, length-drop at input)) in
       let g : Feeds s bs ms os kept (drop at input) (take (length dst - w) (drop w dst)) r bs′ ms′ os′ kept′ m =
@@ -168,9 +169,9 @@ module _ (input d₀ bs ms os kept dst : List ℕ) (s : Stream) (at w : ℕ) (h 
         omega (arith, g .further (omega (arith, length-drop at input)), g .used, length-drop at input),
       )
 
-  pub running-done : (k : ℕ) (m : List ℕ) → length kept ≡ 517 → length input ≤ at → Prints (take (length dst - w) (drop w dst)) (left s kept) k m
+  pub running-done : {k : ℕ} {m : List ℕ} → length kept ≡ mostKept → length input ≤ at → Prints (take (length dst - w) (drop w dst)) (left s kept) k m
       → Prints d₀ (trace input) (w + k) (putMid w (length dst - w) dst m)
-  running-done k m e le p =
+  running-done {k} {m} e le p =
       let b = behind (left s kept) k m (from-place w dst running-room (left s kept) k m p) in
       let all : trace input ≡ h .text ++ left s kept =
       h .rest ∙ ap (λ (y : List ℕ). h .text ++ y) (ap (λ (y : List ℕ). future s bs ms os kept y) (none-behind at input le) ∙ at-end s bs ms os kept e) in
@@ -180,5 +181,5 @@ module _ (input d₀ bs ms os kept dst : List ℕ) (s : Stream) (at w : ℕ) (h 
       }
 
 -- what holds a text is as long as before
-pub printed-long : (l t : List ℕ) (k : ℕ) (m : List ℕ) → Prints l t k m → length m ≡ length l
-printed-long l t k m h = ap length (h .buffer) ∙ long-holding l t []
+pub printed-long : {l t : List ℕ} {k : ℕ} {m : List ℕ} → Prints l t k m → length m ≡ length l
+printed-long {l} {t} h = ap length (h .buffer) ∙ long-holding l t []

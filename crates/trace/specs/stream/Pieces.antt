@@ -9,6 +9,7 @@ use Rattle.records.specs.lines.Puts.{Prints}
 use Rattle.trace.specs.declared.stream.Stream.{Stream}
 use Rattle.trace.specs.declared.stream.Fed.{Fed}
 use Rattle.trace.specs.stream.Contract.{future, left, beginning, Feeds}
+use Rattle.trace.specs.Numbers.{mostKept, mostLine}
 
 -- the pieces, one after the other
 abbrev pub joined : List (List ℕ) → List ℕ
@@ -18,12 +19,13 @@ joined (p ∷ ps) = p ++ joined ps
 -- From this stream, port and buffers the pieces that are left are fed, each until it is used, and the last line is finished; the lines
 -- are written one after the other. Each is put into a buffer that has room for any line.
 pub data Writes : List (List ℕ) → Stream → List ℕ → List ℕ → List ℕ → List ℕ → List ℕ → Type 0 where
-  feeds : {g : Stream} {bs ms os kept p l : List ℕ} {ps : List (List ℕ)} {r : Fed} {bs′ ms′ os′ kept′ l′ t : List ℕ}
-      → 4123 ≤ length l → Feeds g bs ms os kept p l r bs′ ms′ os′ kept′ l′ → Writes (drop (r .used) p ∷ ps) (r .stream) bs′ ms′ os′ kept′ t
-      → Writes (p ∷ ps) g bs ms os kept (take (r .length) l′ ++ t)
-  used : {g : Stream} {bs ms os kept : List ℕ} {ps : List (List ℕ)} {t : List ℕ} → Writes ps g bs ms os kept t → Writes ([] ∷ ps) g bs ms os kept t
-  finishes : {g : Stream} {bs ms os kept l : List ℕ} {r : ℕ} {l′ : List ℕ}
-      → length kept ≡ 517 → 4123 ≤ length l → Prints l (left g kept) r l′ → Writes [] g bs ms os kept (take r l′)
+  feeds : {stream : Stream} {bs ms os kept p l : List ℕ} {ps : List (List ℕ)} {r : Fed} {bs′ ms′ os′ kept′ l′ t : List ℕ}
+      → mostLine ≤ length l → Feeds stream bs ms os kept p l r bs′ ms′ os′ kept′ l′ → Writes (drop (r .used) p ∷ ps) (r .stream) bs′ ms′ os′ kept′ t
+      → Writes (p ∷ ps) stream bs ms os kept (take (r .length) l′ ++ t)
+  used : {stream : Stream} {bs ms os kept : List ℕ} {ps : List (List ℕ)} {t : List ℕ}
+      → Writes ps stream bs ms os kept t → Writes ([] ∷ ps) stream bs ms os kept t
+  finishes : {stream : Stream} {bs ms os kept l : List ℕ} {r : ℕ} {l′ : List ℕ}
+      → length kept ≡ mostKept → mostLine ≤ length l → Prints l (left stream kept) r l′ → Writes [] stream bs ms os kept (take r l′)
 
 -- Who begins with a port of document 01's sizes writes the lines of the whole input.
 abbrev pub WritesTheWhole : Type 0
@@ -32,10 +34,10 @@ WritesTheWhole =
     → length bs ≡ 1024 → length ms ≡ 1024 → length os ≡ 2048 → Writes pieces beginning bs ms os kept t → t ≡ trace (joined pieces)
 
 -- A piece is fed as a whole: some text is written for it, and what is printed from then on is what was to be printed.
-pub record Passes (g : Stream) (bs ms os kept piece : List ℕ) (r : Stream) (bs′ ms′ os′ kept′ : List ℕ) : Type 0 where
+pub record Passes (stream : Stream) (bs ms os kept piece : List ℕ) (r : Stream) (bs′ ms′ os′ kept′ : List ℕ) : Type 0 where
   pub text : List ℕ
-  pub along : (rest : List ℕ) → future g bs ms os kept (piece ++ rest) ≡ text ++ future r bs′ ms′ os′ kept′ rest
+  pub along : (rest : List ℕ) → future stream bs ms os kept (piece ++ rest) ≡ text ++ future r bs′ ms′ os′ kept′ rest
 
 abbrev pub PassesLent : Stream → Lent → Lent → Lent → Lent → Lent → Stream → Type 0
-PassesLent g bytes marks out kept piece r =
-    Passes g (before bytes) (before marks) (before out) (before kept) (before piece) r (after bytes) (after marks) (after out) (after kept)
+PassesLent stream bytes marks out kept piece r =
+    Passes stream (before bytes) (before marks) (before out) (before kept) (before piece) r (after bytes) (after marks) (after out) (after kept)

@@ -7,11 +7,11 @@ use Rattle.tracer.proofs.main.Statement.{statement}
 use Rattle.tracer.proofs.main.Tie as tie
 
 abbrev Inv-loop : tie.InvT-loop
-Inv-loop bytes₀ marks₀ out₀ kept₀ buf₀ s₀ turns₀ t13 t14 t15 bytes marks out kept buf s turns =
+Inv-loop bytes₀ marks₀ out₀ kept₀ buf₀ stream₀ turns₀ t13 t14 t15 bytes marks out kept buf stream turns =
     (length bytes ≡ 1024) × (length marks ≡ 1024) × (length out ≡ 2048) × (length buf ≡ 65536)
 
 abbrev μ-loop : tie.MeasureT-loop
-μ-loop bytes₀ marks₀ out₀ kept₀ buf₀ s₀ turns₀ t13 t14 t15 bytes marks out kept buf s turns = turns
+μ-loop bytes₀ marks₀ out₀ kept₀ buf₀ stream₀ turns₀ t13 t14 t15 bytes marks out kept buf stream turns = turns
 
 start-requires : tie.Need-start-requires Inv-loop μ-loop
 start-requires c κs = tt
@@ -36,27 +36,32 @@ returns c = tt
 
 slice-aggregate-count : tie.Need-slice-aggregate-count Inv-loop μ-loop
 slice-aggregate-count c =
-    let at-read = c .before .before .before .read in
-    let at-loop = c .before .before .before .before .before .before .before .before .loop in
-    sym ((at-read .kept .1 .0) ∙ (at-loop .inv .3))
+    let read = c .before .before .before in
+    sym (read .read .kept .1 .0 ∙ read .before .before .before .before .before .loop .inv .3)
 
 count-requires : tie.Need-count-requires Inv-loop μ-loop
 count-requires c κs = tt
 
 slice-aggregate-pass : tie.Need-slice-aggregate-pass Inv-loop μ-loop
-slice-aggregate-pass c = sym (c .before .before .before .before .before .before .before .before .before .before .before .loop .inv .0)
+slice-aggregate-pass c =
+    let loop = c .before .before .before .before .before .before .before .before .before .before .before .loop in
+    sym (loop .inv .0)
 
 slice-aggregate-pass-2 : tie.Need-slice-aggregate-pass-2 Inv-loop μ-loop
-slice-aggregate-pass-2 c = sym (c .before .before .before .before .before .before .before .before .before .before .before .before .loop .inv .1)
+slice-aggregate-pass-2 c =
+    let loop = c .before .before .before .before .before .before .before .before .before .before .before .before .loop in
+    sym (loop .inv .1)
 
 slice-aggregate-pass-3 : tie.Need-slice-aggregate-pass-3 Inv-loop μ-loop
-slice-aggregate-pass-3 c = sym (c .before .before .before .before .before .before .before .before .before .before .before .before .before .loop .inv .2)
+slice-aggregate-pass-3 c =
+    let loop = c .before .before .before .before .before .before .before .before .before .before .before .before .before .loop in
+    sym (loop .inv .2)
 
 array-share-prefix-buf : tie.Need-array-share-prefix-buf Inv-loop μ-loop
-array-share-prefix-buf c = (c .before .before .before .before .before .count .ensures .0 .0)
+array-share-prefix-buf c = c .before .before .before .before .before .count .ensures .0 .0
 
 slice-aggregate-pass-4 : tie.Need-slice-aggregate-pass-4 Inv-loop μ-loop
-slice-aggregate-pass-4 c = (c .before .before .before .before .before .before .count .ensures .0 .1)
+slice-aggregate-pass-4 c = c .before .before .before .before .before .before .count .ensures .0 .1
 
 pass-requires : tie.Need-pass-requires Inv-loop μ-loop
 pass-requires c κs = tt
@@ -72,27 +77,23 @@ returns-2 c = tt
 
 sub-turns : tie.Need-sub-turns Inv-loop μ-loop
 sub-turns c =
-    let back = c .before .before .before .before .before .before .before .before .before .before .before .before in
-    let at-loop-test = back .before .before .before .before .before .before .before .before .before .loop-test in
-    omega (arith, (at-loop-test .taken))
+    let pass = c .before .before .before .before .before .before in
+    let test = pass .before .before .before .before .before .before .before .before .before .before .before .before .before .before .before in
+    omega (arith, test .loop-test .taken)
 
 loop-less : tie.Need-loop-less Inv-loop μ-loop
 loop-less c =
-    let back = c .before .before .before .before .before .before .before .before .before .before .before .before in
-    let at-loop-test = back .before .before .before .before .before .before .before .before .before .loop-test in
-    omega (arith, (at-loop-test .taken))
+    let pass = c .before .before .before .before .before .before in
+    let test = pass .before .before .before .before .before .before .before .before .before .before .before .before .before .before .before in
+    omega (arith, test .loop-test .taken)
 
 loop-again : tie.Need-loop-again Inv-loop μ-loop
 loop-again c =
-    let back = c .before .before .before .before .before .before .before .before .before .before .before .before in
-    let at-pass = c .before .before .before .before .before .before .pass in
-    let at-read = back .before .before .before .before .before .read in
-    let at-loop = back .before .before .before .before .before .before .before .before .before .before .loop in (
-      (at-pass .kept .1 .0) ∙ (at-loop .inv .0),
-      (at-pass .kept .1 .1 .0) ∙ (at-loop .inv .1),
-      (at-pass .kept .1 .1 .1 .0) ∙ (at-loop .inv .2),
-      (at-read .kept .1 .0) ∙ (at-loop .inv .3),
-    )
+    let pass = c .before .before .before .before .before .before in
+    let read = pass .before .before .before .before .before .before .before .before .before .before .before in
+    let inv = read .before .before .before .before .before .loop .inv in
+    let same = pass .pass .kept .1 in
+    (same .0 ∙ inv .0, same .1 .0 ∙ inv .1, same .1 .1 .0 ∙ inv .2, read .read .kept .1 .0 ∙ inv .3)
 
 slice-aggregate-finish : tie.Need-slice-aggregate-finish Inv-loop μ-loop
 slice-aggregate-finish c = refl
@@ -101,12 +102,12 @@ finish-requires : tie.Need-finish-requires Inv-loop μ-loop
 finish-requires c κs = tt
 
 array-share-prefix-line : tie.Need-array-share-prefix-line Inv-loop μ-loop
-array-share-prefix-line c = omega (arith, (c .before .finish .ensures .0 .count))
+array-share-prefix-line c = omega (arith, c .before .finish .ensures .0 .count)
 
 slice-aggregate-write-all : tie.Need-slice-aggregate-write-all Inv-loop μ-loop
 slice-aggregate-write-all c =
-    let at-finish = c .before .before .finish in
-    sym (length-take-le (at-finish .result) (at-finish .last .1 .1 .0) (omega (arith, (at-finish .ensures .0 .count), (at-finish .kept .1 .1 .0))))
+    let end = c .before .before .finish in
+    sym (length-take-le (end .result) (end .last .1 .1 .0) (omega (arith, end .ensures .0 .count, end .kept .1 .1 .0)))
 
 write-all-requires : tie.Need-write-all-requires Inv-loop μ-loop
 write-all-requires c κs = tt

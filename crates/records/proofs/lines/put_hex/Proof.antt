@@ -1,4 +1,4 @@
--- `records::lines::put_hex` meets its contract: the first i bytes are laid as two digits each; no byte is a dash. Assumes nothing.
+-- `records::lines::put_hex` meets its contract: the first k bytes are laid as two digits each; no byte is a dash. Assumes nothing.
 use lib.Seq.{take-all}
 use Prim.Native.Nat.{ℕ, _-_, _≤_}
 use mathlib.Core.Path.{_≡_, ap, sym, _∙_}
@@ -15,10 +15,10 @@ use Rattle.records.proofs.lines.put_hex.Statement.{statement}
 use Rattle.records.proofs.lines.put_hex.Tie as tie
 
 abbrev Inv-loop : tie.InvT-loop
-Inv-loop line₀ at bytes p₀ i₀ line p i = (i ≤ length bytes) × Puts line₀ at (hex (take i bytes)) p line
+Inv-loop line₀ at bytes place₀ k₀ line place k = (k ≤ length bytes) × Puts line₀ at (hex (take k bytes)) place line
 
 abbrev μ-loop : tie.MeasureT-loop
-μ-loop line₀ at bytes p₀ i₀ line p i = length bytes - i
+μ-loop line₀ at bytes place₀ k₀ line place k = length bytes - k
 
 put-byte-requires : tie.Need-put-byte-requires Inv-loop μ-loop
 put-byte-requires c κs = search needs
@@ -38,7 +38,7 @@ shared-slice-read-b : tie.Need-shared-slice-read-b Inv-loop μ-loop
 shared-slice-read-b c = omega arith
 
 hex-digit-requires : tie.Need-hex-digit-requires Inv-loop μ-loop
-hex-digit-requires c κs = omega (arith, c .before .shared-slice-known2 .given (c .before .before .before .loop .i))
+hex-digit-requires c κs = omega (arith, c .before .shared-slice-known2 .given (c .before .before .before .loop .k))
 
 put-byte-requires-2 : tie.Need-put-byte-requires-2 Inv-loop μ-loop
 put-byte-requires-2 c κs = search needs
@@ -49,8 +49,8 @@ hex-digit-requires-2 c κs = search needs
 put-byte-requires-3 : tie.Need-put-byte-requires-3 Inv-loop μ-loop
 put-byte-requires-3 c κs = search needs
 
-add-i : tie.Need-add-i Inv-loop μ-loop
-add-i c = omega arith
+add-k : tie.Need-add-k Inv-loop μ-loop
+add-k c = omega arith
 
 loop-less : tie.Need-loop-less Inv-loop μ-loop
 loop-less c = omega arith
@@ -61,7 +61,7 @@ loop-again c =
     let y = z .before .before .before .before .before in
     let w = y .before .before .before .before .before in (
       omega arith,
-      hex-next (now (w .before .before .before .before .args .bytes)) (w .loop .i) (omega arith) (w .loop .inv .1)
+      hex-next (now (w .before .before .before .before .args .bytes)) (w .loop .k) (omega arith) (w .loop .inv .1)
           (same-text (ap (λ (d : ℕ). d ∷ []) (y .before .hex-digit .ensures)) (y .put-byte2 .ensures))
           (same-text (ap (λ (d : ℕ). d ∷ []) (z .before .hex-digit2 .ensures)) (z .put-byte3 .ensures)),
     )
@@ -74,7 +74,7 @@ returns-2 c =
     let w = c .before in
     let bytes = now (w .before .before .before .before .args .bytes) in
     let some : length bytes ≡ 0 → ⊥ = w .before .if1 .left in
-    same-text (ap hex (take-all (w .loop .i) bytes (c .loop-test .left)) ∙ sym (hex-some bytes (omega arith))) (w .loop .inv .1)
+    same-text (ap hex (take-all (w .loop .k) bytes (c .loop-test .left)) ∙ sym (hex-some bytes (omega arith))) (w .loop .inv .1)
 
 pub put-hex-spec : {M : Type 1} → statement M
 put-hex-spec =
@@ -91,7 +91,7 @@ put-hex-spec =
     put-byte-requires-2
     hex-digit-requires-2
     put-byte-requires-3
-    add-i
+    add-k
     loop-less
     loop-again
     same-length-2

@@ -1,4 +1,4 @@
--- `records::lines::put_word` meets its contract: the first i bytes of the word are laid. Assumes nothing.
+-- `records::lines::put_word` meets its contract: the first k bytes of the word are laid. Assumes nothing.
 use lib.Seq.{take-all}
 use Prim.Native.Nat.{_-_, _≤_}
 use native.Mathlib.Omega.{arith}
@@ -11,10 +11,10 @@ use Rattle.records.proofs.lines.put_word.Statement.{statement}
 use Rattle.records.proofs.lines.put_word.Tie as tie
 
 abbrev Inv-loop : tie.InvT-loop
-Inv-loop line₀ at word p₀ i₀ line p i = (i ≤ length word) × Puts line₀ at (take i word) p line
+Inv-loop line₀ at word place₀ k₀ line place k = (k ≤ length word) × Puts line₀ at (take k word) place line
 
 abbrev μ-loop : tie.MeasureT-loop
-μ-loop line₀ at word p₀ i₀ line p i = length word - i
+μ-loop line₀ at word place₀ k₀ line place k = length word - k
 
 loop-holds : tie.Need-loop-holds Inv-loop μ-loop
 loop-holds c = (omega arith, nothing (c .before .before .args .line .now) (c .before .before .args .at))
@@ -25,8 +25,8 @@ shared-slice-read-put-byte c = omega arith
 put-byte-requires : tie.Need-put-byte-requires Inv-loop μ-loop
 put-byte-requires c κs = search needs
 
-add-i : tie.Need-add-i Inv-loop μ-loop
-add-i c = omega arith
+add-k : tie.Need-add-k Inv-loop μ-loop
+add-k c = omega arith
 
 loop-less : tie.Need-loop-less Inv-loop μ-loop
 loop-less c = omega arith
@@ -35,7 +35,7 @@ loop-again : tie.Need-loop-again Inv-loop μ-loop
 loop-again c =
     let w = c .before .before .before .before .before .before .loop in
     let word = now (c .before .before .before .before .before .before .before .before .before .args .word) in
-    (omega arith, word-next word (w .i) (omega arith) (w .inv .1) (c .before .before .put-byte .ensures))
+    (omega arith, word-next word (w .k) (omega arith) (w .inv .1) (c .before .before .put-byte .ensures))
 
 same-length : tie.Need-same-length Inv-loop μ-loop
 same-length c = kept (c .before .loop .inv .1)
@@ -43,7 +43,7 @@ same-length c = kept (c .before .loop .inv .1)
 returns : tie.Need-returns Inv-loop μ-loop
 returns c =
     let w = c .before .loop in
-    same-text (take-all (w .i) (now (c .before .before .before .before .args .word)) (c .loop-test .left)) (w .inv .1)
+    same-text (take-all (w .k) (now (c .before .before .before .before .args .word)) (c .loop-test .left)) (w .inv .1)
 
 pub put-word-spec : {M : Type 1} → statement M
 put-word-spec =
@@ -54,7 +54,7 @@ put-word-spec =
     loop-holds
     shared-slice-read-put-byte
     put-byte-requires
-    add-i
+    add-k
     loop-less
     loop-again
     same-length

@@ -4,6 +4,7 @@ use Prim.Native.Nat.{ℕ, _+_, min}
 use borrow.Author.Needs.{needs}
 use Rattle.trace.proofs.gathering.end_of.Statement.{statement}
 use Rattle.trace.proofs.gathering.end_of.Tie as tie
+use Rattle.trace.specs.Numbers.{header, mostBody}
 
 shared-slice-read-two : tie.Need-shared-slice-read-two
 shared-slice-read-two c = search needs
@@ -21,7 +22,7 @@ add-result : tie.Need-add-result
 add-result c = search needs
 
 returns : tie.Need-returns
-returns c = ap (λ (n : ℕ). 4 + n) (c .least .ensures ∙ ap (λ (n : ℕ). min n 513) (c .before .two .ensures .0))
+returns c = ap (λ (n : ℕ). header + n) (c .least .ensures ∙ ap (λ (n : ℕ). min n mostBody) (c .before .two .ensures .0))
 
 pub end-of-spec : {M : Type 1} → statement M
 end-of-spec =

@@ -27,13 +27,12 @@ part-record-end c = search needs
 record-requires : tie.Need-record-requires
 record-requires c κs = search needs
 
-add-t30 : tie.Need-add-t30
-add-t30 c =
-    let back = c .before .before .before .before .before .before .before .before .before .before .before .before in
-    let further = back .before .before .before .before .before .before .before .before .before .before .before .before in
-    let at-if1 = back .before .before .before .before .before .before .before .before .before .if1 in
-    let at-take-in = further .before .before .before .take-in in
-    let complete = at-take-in .ensures .completed (at-if1 .taken) in
+add-next : tie.Need-add-next
+add-next c =
+    let end = c .before .before .before .before .before .before .before .before .before .before .before .before in
+    let if1 = end .before .before .before .before .before .before .before .before .before in
+    let taken = if1 .before .before .before .before .before in
+    let complete = taken .take-in .ensures .completed (if1 .if1 .taken) in
     omega (arith, complete .below)
 
 same-length : tie.Need-same-length
@@ -47,32 +46,23 @@ same-length-3 c = search needs
 
 same-length-4 : tie.Need-same-length-4
 same-length-4 c =
-    let back = c .before .before .before .before .before .before .before .before .before .before .before .before in
-    let further = back .before .before .before .before .before .before .before .before .before .before .before .before in
-    let at-kept = further .before .before .kept in
-    at-kept .given
+    let back = c .before .before .before .before .before .before .before .before .before .before .before .before .before .before .before in
+    back .before .before .before .before .before .before .before .before .before .before .kept .given
 
 same-length-5 : tie.Need-same-length-5
 same-length-5 c =
-    let back = c .before .before .before .before .before .before .before .before .before .before .before .before in
-    let at-line2 = c .before .before .before .line2 in
-    let at-line = back .before .before .before .before .before .before .before .before .before .before .before .before .line in
-    at-line2 .given ∙ at-line .given
+    let back = c .before .before .before in
+    let further = back .before .before .before .before .before .before .before .before .before .before in
+    back .line2 .given ∙ further .before .before .before .before .before .before .before .before .before .before .line .given
 
 returns : tie.Need-returns
 returns c =
-    let back = c .before .before .before .before .before .before .before .before .before .before .before .before in
-    let further = back .before .before .before .before .before .before .before .before .before .before .before .before in
-    let r = c .before .before .before .before .before .before .before .before .before .before .«record» in
-    let end = back .before .before .before .before .before .end-of in
-    let kind = back .before .before .before .before .before .before .before .kind-of in
-    let at-if1 = back .before .before .before .before .before .before .before .before .before .if1 in
-    let t = further .before .before .before .take-in in
-    let a = further .before .before .before .before .before .before .before .before .before .before .before .before .args in
-    feeds-record (a .g) (a .bytes .now) (a .marks .now) (a .out .now) (a .kept .now) (a .piece .now) (a .line .now) (t .result) (t .last .1 .0)
-    (t .last .1 .1 .1 .0) (t .ensures)
-    (kind .result) (end .result) (r .result) (r .last .1 .0) (r .last .1 .1 .0) (r .last .1 .1 .1 .0) (r .last .1 .1 .1 .1 .1 .1 .1 .0)
-    (at-if1 .taken) (kind .ensures) (end .ensures) (r .ensures)
+    let recorded = c .before .before .before .before .before .before .before .before .before .before in
+    let end = recorded .before .before .before .before .before .before .before in
+    let kind = end .before .before in
+    let if1 = kind .before .before in
+    let taken = if1 .before .before .before .before .before in
+    feeds-record (taken .take-in .ensures) (if1 .if1 .taken) (kind .kind-of .ensures) (end .end-of .ensures) (recorded .«record» .ensures)
 
 same-length-6 : tie.Need-same-length-6
 same-length-6 c = search needs
@@ -81,12 +71,7 @@ same-length-7 : tie.Need-same-length-7
 same-length-7 c = search needs
 
 returns-2 : tie.Need-returns-2
-returns-2 c =
-    let back = c .before .before .before .before .before .before .before .before .before .before .before .before in
-    let t = c .before .before .before .before .before .before .take-in in
-    let a = back .before .before .before .args in
-    feeds-passed (a .g) (a .bytes .now) (a .marks .now) (a .out .now) (a .kept .now) (a .piece .now) (a .line .now) (t .result) (t .last .1 .0)
-    (t .last .1 .1 .1 .0) (t .ensures) (c .if1 .left)
+returns-2 c = feeds-passed (c .before .before .before .before .before .before .take-in .ensures) (c .before .if1 .left)
 
 pub advance-spec : {M : Type 1} → statement M
 advance-spec =
@@ -99,7 +84,7 @@ advance-spec =
     part-record-start
     part-record-end
     record-requires
-    add-t30
+    add-next
     same-length
     same-length-2
     same-length-3

@@ -6,18 +6,17 @@ use Rattle.trace.proofs.stream.last.Tie as tie
 
 returns : tie.Need-returns
 returns c =
-    let start = c .before .before .before in
-    last-done (start .args .g) (start .args .kept .now) (start .args .line .now) (c .if1 .taken)
+    let a = c .before .before .before .args in
+    last-done (a .stream) (a .kept .now) (a .line .now) (c .if1 .taken)
 
 begun-requires : tie.Need-begun-requires
 begun-requires c κs = search needs
 
 returns-2 : tie.Need-returns-2
 returns-2 c =
-    let at-if1 = c .before .before .if1 in
-    let start = c .before .before .before .before .before in
-    last-none (start .args .g) (start .args .kept .now) (start .args .line .now) (c .before .begun .result) (c .before .begun .ensures) (at-if1 .left)
-    (c .if2 .taken)
+    let if1 = c .before .before in
+    let a = if1 .before .before .before .args in
+    last-none (a .stream) (a .kept .now) (a .line .now) (c .before .begun .ensures) (if1 .if1 .left) (c .if2 .taken)
 
 put-full-requires : tie.Need-put-full-requires
 put-full-requires c κs = search needs
@@ -27,14 +26,13 @@ same-length c = search needs
 
 returns-3 : tie.Need-returns-3
 returns-3 c =
-    let at-put-full = c .before .before .put-full in
-    let at-if3 = c .before .before .before .before .if3 in
-    let at-if2 = c .before .before .before .before .before .before .if2 in
-    let at-begun = c .before .before .before .before .before .before .before .begun in
-    let at-if1 = c .before .before .before .before .before .before .before .before .if1 in
-    let start = c .before .before .before .before .before .before .before .before .before .before .before in
-    last-full (start .args .g) (start .args .kept .now) (start .args .line .now) (at-begun .result) (at-begun .ensures) (at-put-full .result)
-    (at-put-full .last .0) (at-if1 .left) (at-if2 .left) (at-if3 .taken) (at-put-full .ensures)
+    let put = c .before .before in
+    let if3 = put .before .before in
+    let if2 = if3 .before .before in
+    let if1 = if2 .before .before in
+    let a = if1 .before .before .before .args in
+    last-full (a .stream) (a .kept .now) (a .line .now) (if2 .before .begun .ensures) (if1 .if1 .left) (if2 .if2 .left) (if3 .if3 .taken)
+    (put .put-full .ensures)
 
 put-cut-requires : tie.Need-put-cut-requires
 put-cut-requires c κs = search needs
@@ -44,14 +42,13 @@ same-length-2 c = search needs
 
 returns-4 : tie.Need-returns-4
 returns-4 c =
-    let at-put-cut = c .before .before .put-cut in
-    let at-if3 = c .before .before .before .before .if3 in
-    let at-if2 = c .before .before .before .before .before .before .if2 in
-    let at-begun = c .before .before .before .before .before .before .before .begun in
-    let at-if1 = c .before .before .before .before .before .before .before .before .if1 in
-    let start = c .before .before .before .before .before .before .before .before .before .before .before in
-    last-cut (start .args .g) (start .args .kept .now) (start .args .line .now) (at-begun .result) (at-begun .ensures) (at-put-cut .result)
-    (at-put-cut .last .0) (at-if1 .left) (at-if2 .left) (at-if3 .left) (at-put-cut .ensures)
+    let put = c .before .before in
+    let if3 = put .before .before in
+    let if2 = if3 .before .before in
+    let if1 = if2 .before .before in
+    let a = if1 .before .before .before .args in
+    last-cut (a .stream) (a .kept .now) (a .line .now) (if2 .before .begun .ensures) (if1 .if1 .left) (if2 .if2 .left) (if3 .if3 .left)
+    (put .put-cut .ensures)
 
 pub last-spec : {M : Type 1} → statement M
 last-spec =

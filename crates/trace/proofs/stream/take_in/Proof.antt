@@ -6,14 +6,10 @@ use Rattle.trace.proofs.stream.take_in.Statement.{statement}
 use Rattle.trace.proofs.stream.take_in.Tie as tie
 
 returns : tie.Need-returns
-returns c =
-    let a = c .before .before .before .before .args in
-    takes-done (a .g) (a .kept .now) (a .piece .now) (a .line .now) (c .if1 .taken)
+returns c = takes-done (c .if1 .taken)
 
 returns-2 : tie.Need-returns-2
-returns-2 c =
-    let a = c .before .before .before .before .before .args in
-    takes-none (a .g) (a .kept .now) (a .piece .now) (a .line .now) (c .before .if1 .left) (c .if2 .taken)
+returns-2 c = takes-none (c .before .if1 .left) (c .if2 .taken)
 
 put-full-requires : tie.Need-put-full-requires
 put-full-requires c κs = search needs
@@ -23,13 +19,10 @@ same-length c = search needs
 
 returns-3 : tie.Need-returns-3
 returns-3 c =
-    let put = c .before .before .put-full in
-    let at-if3 = c .before .before .before .before .if3 in
-    let at-if2 = c .before .before .before .before .before .before .if2 in
-    let at-if1 = c .before .before .before .before .before .before .before .if1 in
-    let a = c .before .before .before .before .before .before .before .before .before .before .before .args in
-    takes-full (a .g) (a .kept .now) (a .piece .now) (a .line .now) (put .result) (put .last .0)
-    (at-if1 .left) (at-if2 .left) (at-if3 .taken) (put .ensures)
+    let put = c .before .before in
+    let if3 = put .before .before in
+    let if2 = if3 .before .before in
+    takes-full (if2 .before .if1 .left) (if2 .if2 .left) (if3 .if3 .taken) (put .put-full .ensures)
 
 begun-requires : tie.Need-begun-requires
 begun-requires c κs = search needs
@@ -37,9 +30,8 @@ begun-requires c κs = search needs
 gather-requires : tie.Need-gather-requires
 gather-requires c κs =
     let begun = c .before .begun in
-    let a = c .before .before .before .before .before .before .before .before .before .before .args in
     let start = c .before .before .before .before .before .before .before .before .before .before in
-    (start .pre, (begun-is-open (a .kept .now) (a .g .have) (begun .result) (begun .ensures .0), begun .ensures .1))
+    (start .pre, (begun-is-open (start .args .kept .now) (start .args .stream .have) (begun .result) (begun .ensures .0), begun .ensures .1))
 
 add-now : tie.Need-add-now
 add-now c = search needs
@@ -52,14 +44,12 @@ same-length-2 c = search needs
 
 returns-4 : tie.Need-returns-4
 returns-4 c =
-    let back = c .before .before .before .before .before .before .before .before .before .before .before .before in
-    let gather = c .before .before .before .before .gather in
-    let begun = c .before .before .before .before .before .before .begun in
-    let at-if3 = c .before .before .before .before .before .before .before .before .if3 in
-    let at-if1 = c .before .before .before .before .before .before .before .before .before .before .before .if1 in
-    let a = back .before .before .before .args in
-    takes-gathered (a .g) (a .kept .now) (a .piece .now) (a .line .now) (begun .result) (gather .result) (gather .last .0)
-    (at-if1 .left) (at-if3 .left) (begun .ensures .0) (gather .ensures) (c .is-open .result) (c .is-open .ensures .0)
+    let gather = c .before .before .before .before in
+    let begun = gather .before .before in
+    let if3 = begun .before .before in
+    let if1 = if3 .before .before .before in
+    takes-gathered (if1 .if1 .left) (if3 .if3 .left) (begun .begun .ensures .0) (gather .gather .ensures) (c .is-open .result)
+    (c .is-open .ensures .0)
 
 pub take-in-spec : {M : Type 1} → statement M
 take-in-spec =
