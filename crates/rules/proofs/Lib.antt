@@ -7,5 +7,5 @@ pub mod Classes
 pub mod OutputLaws
 pub mod Limits
 pub mod Handed
-pub mod asking
-pub mod wrongports
+pub mod Asked
+pub mod WrongPorts

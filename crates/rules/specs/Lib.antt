@@ -15,4 +15,4 @@ pub mod Reads
 pub mod Verdicts
 pub mod Step
 pub mod Trace
-pub mod asking
+pub mod Asked

@@ -37,8 +37,8 @@ use Rattle.records.proofs.lines.Front.{prints-unique}
 use Rattle.trace.specs.Contract.{answeredOf, givenOf, lentFrom, Exactly, Carries, Records}
 use Rattle.trace.specs.declared.Recorded.{Recorded}
 use Rattle.trace.specs.declared.Carried.{Carried}
-use Rattle.rules.specs.asking.Asking.{Asked}
-use Rattle.rules.proofs.asking.Laws.{asked-of}
+use Rattle.rules.specs.Asked.{Asked}
+use Rattle.rules.proofs.Asked.{asked-of}
 use Rattle.trace.specs.Numbers.{mostLent}
 
 ---- load

@@ -1,3 +1,2 @@
-pub mod Rules
 pub mod Keeping
 pub mod Laws

@@ -1,5 +1,5 @@
 // Document 01, 'The trace program': one record carried out on a port, and its line.
-pub mod gathering;
+mod gathering;
 pub mod stream;
 
 ghost use mathlib.Core.Path.{_≡_};

@@ -6,8 +6,8 @@ use Rattle.rules.specs.declared.Call.{Call}
 use Rattle.rules.specs.declared.Call.the-variants.{Set, Receive, Read, Write, Transmit, Flush, Cancel, Foreground, ReadVerdict, WriteVerdict, SettingsVerdict}
 use Rattle.rules.specs.Sizes.{Sizes, State}
 use Rattle.rules.specs.Trace.{Decoded, wellFormed, malformed, decode, answered}
-use Rattle.rules.specs.asking.Asking.{ReadBy, Asked}
-use Rattle.rules.proofs.asking.Laws.{asked-of}
+use Rattle.rules.specs.Asked.{ReadBy, Asked}
+use Rattle.rules.proofs.Asked.{asked-of}
 use Rattle.secrecy.specs.Statement.{NoRead}
 use Rattle.secrecy.proofs.Given.{NoneGiven, none-given}
 

@@ -15,7 +15,7 @@ use Rattle.rules.specs.Trace.{Decoded, wellFormed, malformed, aRecord, bodyOf, 
 use Rattle.secrecy.specs.Statement.{Each, none, more, Quiet, MayDiffer, Brings, Alike}
 use Rattle.secrecy.proofs.Theorem.{secrecy}
 use Rattle.secrecy.proofs.Given.{same-delivered}
-use Rattle.trace.proofs.gathering.Rules.{fronted, by-front}
+use Rattle.trace.proofs.Rules.{fronted, by-front}
 use Rattle.discreet.proofs.traces.Given.{record-gives-none}
 use Rattle.discreet.specs.traces.Statement.{Rec, encoded, encodedAll, Ends, atEnd, inRecord, meant, asked, callsOf, Keeps, RecordsDiffer}
 use Rattle.discreet.specs.traces.Statement.{PrintedAlike, ends, prints, FromState, settingsAfter, Demand3Traces}

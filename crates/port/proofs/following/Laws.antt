@@ -22,9 +22,10 @@ use Rattle.rules.specs.Fit.{unitFits, endFits, kept, ended, overflowOn, unitOn,
 use Rattle.rules.specs.Received.{Meaning, literalNext, signals, stops, starts, drops, edits, ends, marks, stores, step1, step2, step3, flushedUnless}
 use Rattle.rules.specs.Received.{editOn, carry, good, silently, breakOn, brokenOn, parityOn, hangupOn, event, receivedOn, received}
 use Rattle.rules.proofs.Truth.{and-true}
-use Rattle.input.proofs.Laws.{stored-length, kept-stored, ended-stored, kept-used, ended-used}
+use Rattle.input.proofs.Laws.{kept-stored, ended-stored, kept-used, ended-used}
 use Rattle.editing.proofs.Laws.{places-units}
 use Rattle.port.specs.following.Following.{Follows, grown, fewer, Goes}
+use Rattle.rules.proofs.Limits.{stored-length}
 
 ---- The current line without its newest units
 

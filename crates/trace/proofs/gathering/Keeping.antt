@@ -14,8 +14,8 @@ use Rattle.rules.specs.Trace as trace
 use Rattle.rules.specs.Trace.{two, decode, answered, line, cutLine, traceFrom}
 use Rattle.rules.proofs.OutputLaws.{append-nil}
 use Rattle.trace.specs.gathering.Contract.{sizeOf, kindOf, bodyOf, isOpen, come, pending}
-use Rattle.rules.proofs.asking.Laws.{long-malformed}
-use Rattle.trace.proofs.gathering.Rules.{trace-short, trace-cut, trace-record, blind}
+use Rattle.rules.proofs.Asked.{long-malformed}
+use Rattle.trace.proofs.Rules.{trace-short, trace-cut, trace-record, blind}
 use Rattle.trace.specs.Numbers.{header, mostBody, mostKept}
 
 -- a list of four and more

@@ -18,7 +18,7 @@ use Rattle.records.specs.lines.Puts.{Prints}
 use Rattle.trace.specs.gathering.Contract.{sizeOf, isOpen, come, pending}
 use Rattle.trace.specs.stream.Contract.{future, left}
 use Rattle.trace.specs.declared.stream.Stream.{Stream}
-use Rattle.trace.proofs.gathering.Rules.{trace-none, trace-full}
+use Rattle.trace.proofs.Rules.{trace-none, trace-full}
 use Rattle.trace.proofs.gathering.Keeping.{pending-long, cut-short}
 use Rattle.trace.specs.Numbers.{mostKept, mostRecords, mostSize}
 

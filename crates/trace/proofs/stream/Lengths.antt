@@ -24,8 +24,8 @@ use Rattle.rules.specs.Reads as reads
 use Rattle.rules.specs.Step.{step}
 use Rattle.rules.specs.Trace as trace
 use Rattle.input.proofs.reading.FirstLine.{line-count, bytes-count}
-use Rattle.rules.specs.asking.Asking.{Asked}
-use Rattle.rules.proofs.asking.Laws.{asked-of}
+use Rattle.rules.specs.Asked.{Asked}
+use Rattle.rules.proofs.Asked.{asked-of}
 use Rattle.trace.proofs.Laws.{handed-count}
 use Rattle.trace.specs.Numbers.{mostLent, mostLine}
 

@@ -12,7 +12,7 @@ use Rattle.port.specs.State.{sizes, get}
 use Rattle.records.specs.lines.Puts.{Prints}
 use Rattle.trace.specs.gathering.Contract.{sizeOf, isOpen, come, pending, Gathers}
 use Rattle.trace.proofs.gathering.Laws.{begun-pending}
-use Rattle.trace.proofs.gathering.Rules.{trace-full}
+use Rattle.trace.proofs.Rules.{trace-full}
 use Rattle.trace.specs.stream.Contract.{future, TakesIn}
 use Rattle.trace.specs.declared.stream.Stream.{Stream}
 use Rattle.trace.proofs.stream.Laws.{prints-none, going, over}

@@ -16,9 +16,10 @@ unit-of-requires c κs = search needs
 
 store-requires : tie.Need-store-requires
 store-requires c κs =
+    let at-unit-of = c .before .before .unit-of in
     let at-what = c .before .before .before .before .what in
     let start = c .before .before .before .before .before .before .before .before in
-    subst (λ (y : List Place). Room (start .args .i) (start .args .bytes .now) (start .args .marks .now) (length y)) (sym (c .before .before .unit-of .ensures))
+    subst (λ (y : List Place). Room (start .args .i) (start .args .bytes .now) (start .args .marks .now) (length y)) (sym (at-unit-of .ensures))
     (rw (at-what .given .1) at (start .pre))
 
 enum-known-what-2 : tie.Need-enum-known-what-2

@@ -13,7 +13,7 @@ use Rattle.rules.specs.declared.Event.{Event}
 use Rattle.rules.specs.declared.Event.the-variants.{Good, Parity, Framing, Break, Tick, Hangup}
 use Rattle.rules.specs.Trace as trace
 use Rattle.rules.specs.Trace.{Decoded, wellFormed, malformed, decode}
-use Rattle.rules.specs.asking.Asking.{ReadBy, Asked}
+use Rattle.rules.specs.Asked.{ReadBy, Asked}
 
 left-true : (a b : Bool) → (a && b) ≡ true → a ≡ true
 left-true true b e = refl

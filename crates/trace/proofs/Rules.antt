@@ -12,7 +12,7 @@ use borrow.Author.Tests.{le-leb, lt-leb}
 use Rattle.rules.specs.Sizes.{Sizes, State}
 use Rattle.rules.specs.Refusals.{Reply}
 use Rattle.rules.specs.Trace as trace
-use Rattle.rules.proofs.asking.Laws.{long-malformed}
+use Rattle.rules.proofs.Asked.{long-malformed}
 use Rattle.rules.specs.Trace.{malformed, Front, nothing, cut, aRecord, front, two, decode, answered, line, cutLine, fullLine, traceFrom}
 use Rattle.trace.specs.Numbers.{header, mostBody}
 

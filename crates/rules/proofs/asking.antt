@@ -1,2 +1,0 @@
--- What is proved of a record: Laws has `asked-of`, and what follows from it.
-pub mod Laws

@@ -1,2 +1,0 @@
--- What a well-formed record can ask for.
-pub mod Asking
