@@ -6,7 +6,7 @@ use mathlib.Core.List.{List, [], ◌∷◌, ◌++◌, reverse, reverse-append}
 use Prim.Native.Nat.{ℕ, zero, suc, ◌+◌, ◌-◌, ◌%◌, ◌<◌, ◌≤◌, min}
 use native.Mathlib.Nat.{add-zero, add-suc, le_antisymm}
 use native.Mathlib.Omega.{arith}
-use lib.ListN.{length, get_or, take, drop, length_reverse, length-take, length-drop, drop_of_length-le}
+use lib.ListN.{length, get_or, take, drop, length-reverse, length-take, length-drop, drop_of_length-le}
 use lib.Seq.{take-suc, drop-append-le, drop-drop}
 use lib.Dec.{eqb}
 use Rattle.queue.specs.Queue.{held}
@@ -64,7 +64,7 @@ module _ (i : Input) (bs ms : List ℕ) (e : length bs ≡ length ms) (h : Withi
 
   line_long : (k : ℕ) → k ≤ i.queue.len → length (line_to i bs ms k) ≡ k - i.ready
   line_long k le =
-      length_reverse (drop i.ready (take k (all i bs ms)))
+      length-reverse (drop i.ready (take k (all i bs ms)))
       ∙ length-drop i.ready (take k (all i bs ms))
       ∙ ap (λ (n : ℕ). n - i.ready) (length-take k (all i bs ms) ∙ least)
     where

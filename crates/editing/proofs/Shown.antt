@@ -2,7 +2,7 @@
 use mathlib.Core.Path.{◌≡◌, refl, sym, ap, ◌∙◌}
 use mathlib.Core.Logic.{⊎_elim}
 use mathlib.Core.Bool.{Bool, true, false, not, ◌&&◌, ◌||◌, cond}
-use mathlib.Core.List.{List, [], ◌∷◌, ◌++◌, append_nil}
+use mathlib.Core.List.{List, [], ◌∷◌, ◌++◌, append-nil}
 use Prim.Native.Nat.{ℕ, suc, ◌+◌, ◌-◌, ◌/◌, ◌%◌, ◌<◌, ◌≤◌}
 use native.Mathlib.Nat.{le_antisymm}
 use native.Mathlib.Numerals.{add-one}
@@ -64,7 +64,7 @@ echo_behind x p q l = go p.starts
     go true = ap (◌++◌ (line_echo x (units (q ∷ l)))) (seen p.silent (visible x p.byte))
     go false =
         echo_further x p q l
-        ∙ sym (append_nil (line_echo x (units (q ∷ l))))
+        ∙ sym (append-nil (line_echo x (units (q ∷ l))))
         ∙ ap (◌++◌ (line_echo x (units (q ∷ l)))) (sym (unseen p.silent (visible x p.byte)))
 
 -- what the line before place k shows, and its byte where it begins a unit that had an echo

@@ -2,11 +2,11 @@
 use mathlib.Core.Path.{◌≡◌, refl, sym, ap, ◌∙◌}
 use mathlib.Core.Logic.{⊎_elim}
 use mathlib.Core.Bool.{Bool, true, false, ◌&&◌, and-false}
-use mathlib.Core.List.{List, [], ◌∷◌, ◌++◌, map, reverse, append_nil, append_assoc, reverse-cons, reverse-append, reverse-reverse}
+use mathlib.Core.List.{List, [], ◌∷◌, ◌++◌, map, reverse, append-nil, append_assoc, reverse-cons, reverse-append, reverse-reverse}
 use Prim.Native.Nat.{ℕ, zero, suc, ◌+◌, ◌-◌, ◌*◌, ◌/◌, ◌%◌, ◌<◌, ◌≤◌, min}
 use native.Mathlib.Nat.{mod-mod, add_assoc}
 use native.Mathlib.Omega.{arith}
-use lib.ListN.{length, get_or, take, drop, length_append, length-take, length-drop, length_reverse, length-map, take-append-drop, drop_of_length-le}
+use lib.ListN.{length, get_or, take, drop, length-append, length-take, length-drop, length-reverse, length-map, take-append-drop, drop_of_length-le}
 use lib.Seq.{take_at, drop_at, take-take, take_all}
 use lib.Dec.{leb, ltb, eqb}
 use borrow.Author.Tests.{le-leb, lt-leb, lt-ltb, le-ltb}
@@ -148,7 +148,7 @@ module _ (i : Input) (bs ms : List ℕ) (e : length bs ≡ length ms) (h : Withi
   pub current_length : length (get i bs ms).current ≡ i.queue.len - i.ready
   unfolding get
   current_length =
-      length_reverse (drop i.ready (all i bs ms)) ∙ length-drop i.ready (all i bs ms) ∙ ap (λ (n : ℕ). n - i.ready) all_long
+      length-reverse (drop i.ready (all i bs ms)) ∙ length-drop i.ready (all i bs ms) ∙ ap (λ (n : ℕ). n - i.ready) all_long
 
 input_is : (f c f' c' : List Place) (l l' : Bool) → f ≡ f' → c ≡ c' → l ≡ l'
     → ◌≡◌ {A = Ruled} (record { finished = f; current = c; literal_next = l }) (record { finished = f'; current = c'; literal_next = l' })
@@ -202,7 +202,7 @@ held_more q r l l' u k er ek le el =
     let n : ℕ = min q.len N in
     let g : ℕ = q.head % N in
     let c : List ℕ = ring N n q.head l ++ u in
-    let all_long : length c ≡ k = length_append (ring N n q.head l) u ∙ ap (λ (x : ℕ). x + length u) (ring_length N n q.head l) ∙ sym ek in
+    let all_long : length c ≡ k = length-append (ring N n q.head l) u ∙ ap (λ (x : ℕ). x + length u) (ring_length N n q.head l) ∙ sym ek in
     ap (λ (x : Queue). held x l') er
     ∙ ap (held (record { head = g; len = k })) (el ∙ put_append N n q.head l u)
     ∙ ap (λ (x : ℕ). held (record { head = g; len = x }) (stores N l g c)) (sym all_long)
@@ -264,7 +264,7 @@ module _ (i : Input) (bs ms : List ℕ) (w : Ruled) (e : length bs ≡ length ms
       let n : ℕ = min i.queue.len N in
       let used_g : used g ≡ n = used_least i bs ms e in
       let used_w : used w ≡ n + length u =
-      sym (stored_length w) ∙ ap length es ∙ length_append (stored g) u ∙ ap (λ (x : ℕ). x + length u) (stored_length g ∙ used_g) in
+      sym (stored_length w) ∙ ap length es ∙ length-append (stored g) u ∙ ap (λ (x : ℕ). x + length u) (stored_length g ∙ used_g) in
       let new : added g w ≡ u = ap (drop (used g)) es ∙ drop_at (stored g) u (used g) (stored_length g) in
       let by : (f : Place → ℕ) → used w ≡ n + length (map f u) = λ f. used_w ∙ ap (◌+◌ n) (sym (length-map u f)) in
       let hb : held r.queue bs' ≡ held i.queue bs ++ map byte_of u =
@@ -347,17 +347,17 @@ pub kept_stored : (canonical : Bool) (w : Ruled) (u : List Place) → stored (ke
 kept_stored true w u =
     ap (◌++◌ w.finished) (reverse-append (reverse u) w.current ∙ ap (◌++◌ (reverse w.current)) (reverse-reverse u))
     ∙ sym (append_assoc w.finished (reverse w.current) u)
-kept_stored false w u = append_nil (stored w ++ u)
+kept_stored false w u = append-nil (stored w ++ u)
 
 pub ended_stored : (w : Ruled) (p : Place) → stored (ended_in w p) ≡ stored w ++ (p ∷ [])
 ended_stored w p =
-    append_nil (w.finished ++ reverse (p ∷ w.current))
+    append-nil (w.finished ++ reverse (p ∷ w.current))
     ∙ ap (◌++◌ w.finished) (reverse-cons p w.current)
     ∙ sym (append_assoc w.finished (reverse w.current) (p ∷ []))
 
 more_used : (v w : Ruled) (u : List Place) → stored w ≡ stored v ++ u → used w ≡ used v + length u
 more_used v w u e =
-    sym (stored_length w) ∙ ap length e ∙ length_append (stored v) u ∙ ap (λ (n : ℕ). n + length u) (stored_length v)
+    sym (stored_length w) ∙ ap length e ∙ length-append (stored v) u ∙ ap (λ (n : ℕ). n + length u) (stored_length v)
 
 pub kept_used : (canonical : Bool) (w : Ruled) (u : List Place) → used (kept_in canonical w u) ≡ used w + length u
 kept_used canonical w u = more_used w (kept_in canonical w u) u (kept_stored canonical w u)
@@ -377,7 +377,7 @@ pushed q r l l' b eh le h =
     let m : min q.len N ≡ q.len = omega arith in
     let k : Holds q l (held q l ++ (b ∷ [])) r l' = holds_room q r l l' (b ∷ []) (omega arith) h in
     let n : length (held q l ++ (b ∷ [])) ≡ q.len + 1 =
-    length_append (held q l) (b ∷ []) ∙ ap (λ (x : ℕ). x + 1) (held_length q l ∙ m) in (
+    length-append (held q l) (b ∷ []) ∙ ap (λ (x : ℕ). x + 1) (held_length q l ∙ m) in (
       k.queue ∙ queue_is _ q.head _ (q.len + 1) eh n,
       k.ring
           ∙ sym (put_append N (min q.len N) q.head l (b ∷ []))
@@ -428,7 +428,7 @@ module _ (i r : Input) (bs ms bs' ms' b m : List ℕ) (g : Grows i bs ms b m r b
   grown_twice s bs'' ms'' c n e f =
       let h : ℕ = i.queue.head in
       let k : ℕ = i.queue.len in
-      let n' : k + length b + length c ≡ k + length (b ++ c) = add_assoc k (length b) (length c) ∙ ap (◌+◌ k) (sym (length_append b c)) in
+      let n' : k + length b + length c ≡ k + length (b ++ c) = add_assoc k (length b) (length c) ∙ ap (◌+◌ k) (sym (length-append b c)) in
       record {
         input =
             f.input

@@ -4,7 +4,7 @@ use mathlib.Core.List.{List, [], ◌∷◌, ◌++◌}
 use Prim.Native.Nat.{ℕ, ◌+◌, ◌%◌, ◌<◌, ◌≤◌, min}
 use native.Mathlib.Nat.{mod-mod}
 use native.Mathlib.Omega.{arith}
-use lib.ListN.{length, length_append}
+use lib.ListN.{length, length-append}
 use borrow.Author.Tests.{le-leb, lt-leb}
 use Rattle.queue.specs.Ring.{stores}
 use Rattle.queue.specs.Queue.{held, laid, appended, Holds}
@@ -106,7 +106,7 @@ pub twice : (x : Settings) (o p r : Output) (l m k a b : List ℕ) → length (g
     → OutputBecomes o l (queued x (get o l) a) p m → OutputBecomes p m (queued x (get p m) b) r k → OutputBecomes o l (queued x (get o l) (a ++ b)) r k
 twice x o p r l m k a b le f s =
     let w : Ruled = queued x (get o l) a in
-    let fit : length w.queue ≤ length l = rw length_append le in
+    let fit : length w.queue ≤ length l = rw length-append le in
     let again : OutputBecomes p m (queued x w b) r k =
     becomes p r m k (queued x (get p m) b) (queued x w b) (ap (λ (y : Ruled). queued x y b) (get_after o p l m w f fit)) s in
     becomes o r l k (queued x w b) (queued x (get o l) (a ++ b)) (sym (queued_append x (get o l) a b)) (and_then o p l m w f x b r k fit again)
@@ -122,7 +122,7 @@ whole_full N x o e lt = rw (lt-leb (length o.queue + length e) N lt)
 pub len_now : (x : Settings) (o r : Output) (l l' e : List ℕ) → OutputBecomes o l (queued x (get o l) e) r l'
     → r.queue.len ≡ min o.queue.len (length l) + length e
 len_now x o r l l' e b =
-    len_after o r l l' (queued x (get o l) e) b ∙ length_append (get o l).queue e ∙ ap (λ (k : ℕ). k + length e) (get_length o l)
+    len_after o r l l' (queued x (get o l) e) b ∙ length-append (get o l).queue e ∙ ap (λ (k : ℕ). k + length e) (get_length o l)
 
 pub get_range : (o : Output) (l : List ℕ) → get (in_range (length l) o) l ≡ get o l
 unfolding get

@@ -6,7 +6,7 @@ use Prim.Native.Nat.{ℕ, zero, suc, ◌+◌, ◌-◌, ◌*◌, ◌<◌, ◌≤�
 use native.Mathlib.Nat.{add-zero, zero-add}
 use native.Mathlib.Numerals.{add-one}
 use native.Mathlib.Omega.{arith}
-use lib.ListN.{length, get_or, take, drop, length_append}
+use lib.ListN.{length, get_or, take, drop, length-append}
 use lib.Seq.{drop-cons, take-suc, take_all, take-length}
 use borrow.Author.Tests.{le-leb, lt-leb}
 use Rattle.rules.specs.declared.Settings.{Settings}
@@ -144,7 +144,7 @@ taken_all N x n c [] le = refl
 taken_all N x n c (b ∷ bs) le =
     let e : List ℕ = expand x c b in
     let r : List ℕ = processed x (columns_after x c e) bs in
-    let k : length (e ++ r) ≡ length e + length r = length_append e r in
+    let k : length (e ++ r) ≡ length e + length r = length-append e r in
     rw (le-leb (n + length e) N (omega arith)) (ap suc (taken_all N x (n + length e) (columns_after x c e) bs (omega arith)))
 
 pub shown_of : (x : Settings) (o : Output) (l bs : List ℕ) (r : Wrote) (m : List ℕ) → length (get o l).queue + length (processed x o.column bs) ≤ length l

@@ -5,7 +5,7 @@ use mathlib.Core.Bool.{Bool, true, false}
 use mathlib.Core.List.{List, ◌++◌}
 use Prim.Native.Nat.{ℕ, ◌≤◌, min}
 use native.Mathlib.Omega.{arith}
-use lib.ListN.{length, take, drop, length_append, take-append-drop}
+use lib.ListN.{length, take, drop, length-append, take-append-drop}
 use Rattle.rules.specs.declared.Answer.{Answer}
 use Rattle.rules.specs.declared.Group.{Group}
 use Rattle.rules.specs.declared.Settings.{Settings}
@@ -77,9 +77,9 @@ long_again n a b t d =
     omega (
       arith,
       ap length (take-append-drop n a),
-      length_append (take n a) (drop n a),
+      length-append (take n a) (drop n a),
       ap length (take-append-drop n b),
-      length_append (take n b) (drop n b),
+      length-append (take n b) (drop n b),
       t,
       ap length d,
     )

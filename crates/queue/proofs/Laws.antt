@@ -4,7 +4,7 @@ use mathlib.Core.List.{List, [], ◌∷◌, ◌++◌}
 use Prim.Native.Nat.{ℕ, zero, suc, ◌+◌, ◌-◌, ◌%◌, ◌<◌, ◌≤◌, min}
 use native.Mathlib.Nat.{add-zero, zero-add, add-suc, suc-add, mod-add-mod, mod-lt}
 use native.Mathlib.Omega.{arith}
-use lib.ListN.{length, get_or, set, length_append}
+use lib.ListN.{length, get_or, set, length-append}
 use lib.Seq.{set-get_or}
 use borrow.Author.Tests.{le-leb, lt-leb, lt-ltb, le-ltb}
 use Rattle.queue.specs.Ring.{ring, stores}
@@ -98,7 +98,7 @@ pushed_fits q l l' bs le el =
     let c : List ℕ = ring (length l) (min q.len (length l)) q.head l in
     let n : length c ≡ min q.len (length l) = ring_length (length l) (min q.len (length l)) q.head l in
     let e : appended (length l) c bs ≡ c ++ bs = appended_fits (length l) c bs (rw n le) in
-    let k : length (c ++ bs) ≡ min q.len (length l) + length bs = length_append c bs ∙ ap (λ (x : ℕ). x + length bs) n in
+    let k : length (c ++ bs) ≡ min q.len (length l) + length bs = length-append c bs ∙ ap (λ (x : ℕ). x + length bs) n in
     record {
       queue = ap (λ (x : ℕ). record { head = q.head % length l; len = x }) (sym k) ∙ ap (laid (q.head % length l)) (sym e);
       ring = el ∙ put_append (length l) (min q.len (length l)) q.head l bs ∙ ap (stores (length l) l (q.head % length l)) (sym e);

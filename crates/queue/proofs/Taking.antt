@@ -5,7 +5,7 @@ use mathlib.Core.Logic.{⊎_elim}
 use Prim.Native.Nat.{ℕ, zero, suc, ◌+◌, ◌-◌, ◌%◌, ◌<◌, ◌≤◌, min}
 use native.Mathlib.Numerals.{add-one}
 use native.Mathlib.Omega.{arith}
-use lib.ListN.{length, get_or, set, take, drop, length_append, length-take, length-drop}
+use lib.ListN.{length, get_or, set, take, drop, length-append, length-take, length-drop}
 use lib.Seq.{take_all}
 use Rattle.queue.specs.Queue.{held, fitted, Takes}
 use Rattle.queue.specs.declared.Queue.{Queue}
@@ -21,7 +21,7 @@ pub record Copied (c d : List ℕ) (k i : ℕ) (m : List ℕ) : Type 0 where
 
 pub as_wide : {c d m : List ℕ} {k i : ℕ} → Copied c d k i m → length m ≡ length d
 as_wide {c} {d} {m} {k} {i} a =
-    omega (arith, a.upto, a.all, a.room, ap length a.moved ∙ length_append (take i c) (drop i d), length-take i c, length-drop i d)
+    omega (arith, a.upto, a.all, a.room, ap length a.moved ∙ length-append (take i c) (drop i d), length-take i c, length-drop i d)
 
 copied_one : (c d : List ℕ) (i : ℕ) → i < length c → i < length d → set (take i c ++ drop i d) i (get_or c i 0) ≡ take (suc i) c ++ drop (suc i) d
 copied_one [] d i lt less = absurd (omega arith)

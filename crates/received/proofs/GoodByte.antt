@@ -1,6 +1,6 @@
 -- A good byte: step 2, and what it means carried out from step 3 on. Assumes nothing.
 use mathlib.Core.Path.{◌≡◌, sym, ap, ◌∙◌, subst, refl}
-use mathlib.Core.Bool.{Bool, true, false, not, ◌&&◌, and-false, and_true}
+use mathlib.Core.Bool.{Bool, true, false, not, ◌&&◌, and-false, and-true}
 use Rattle.rules.specs.declared.Settings.{Settings}
 use Rattle.received.specs.Contract.{stopped_then, Answers, Tells, begun}
 use mathlib.Core.List.{List}
@@ -24,7 +24,7 @@ pub resumes_both : (x : Settings) (t : Bool) → x.ixon ≡ true → x.ixany ≡
 resumes_both x t a b = sym (ap (λ (y : Bool). t && not (y && x.ixany)) a ∙ ap (λ (y : Bool). t && not y) b ∙ and-false t)
 
 pub resumes_not : (x : Settings) (t : Bool) → (x.ixon && x.ixany) ≡ false → t ≡ stopped_then x t
-resumes_not x t a = sym (ap (λ (y : Bool). t && not y) a ∙ and_true t)
+resumes_not x t a = sym (ap (λ (y : Bool). t && not y) a ∙ and-true t)
 
 ---- The port at step 3
 

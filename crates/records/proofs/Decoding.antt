@@ -6,7 +6,7 @@ use mathlib.Core.List.{List, []}
 use mathlib.Core.Logic.{⊎_elim}
 use native.Mathlib.Nat.{eq-or-lt_of_le, le_of_suc-le-suc}
 use native.Mathlib.Omega.{arith}
-use lib.ListN.{length, get_or, drop, replicate, length_replicate}
+use lib.ListN.{length, get_or, drop, replicate, length-replicate}
 use lib.Dec.{leb, ltb, eqb}
 use borrow.Author.Tests.{ne_eqb}
 use Rattle.rules.specs.declared.Event.{Event}
@@ -48,7 +48,7 @@ fair_cancel : (l : List ℕ) → Fair l (empty_record Cancel l)
 fair_cancel l = rw (empty_by Cancel l) (sized l 0 (asks Cancel []) refl)
 
 zeros : (c : Call) (n : ℕ) → asks c (replicate (length (replicate {A = ℕ} n 0)) 0) ≡ asks c (replicate n 0)
-zeros c n = ap (λ (k : ℕ). asks c (replicate k 0)) (length_replicate n 0)
+zeros c n = ap (λ (k : ℕ). asks c (replicate k 0)) (length-replicate n 0)
 
 fair_read_on : (l : List ℕ) (t : Bool) (n c : ℕ) → Fair l (read_record_on t n c)
 fair_read_on l true n c = zeros (Read (flag c)) n

@@ -4,7 +4,7 @@ use native.Mathlib.Omega.{arith}
 use mathlib.Core.Path.{◌≡◌, refl}
 use mathlib.Core.Bool.{Bool, true, false, ◌&&◌, cond, false≢true}
 use mathlib.Core.List.{List, [], ◌∷◌}
-use lib.ListN.{length, length_replicate}
+use lib.ListN.{length, length-replicate}
 use lib.Dec.{leb, ltb, eqb}
 use borrow.Author.Tests.{leb-true, eqb-true}
 use Rattle.rules.specs.declared.Call.{Call}
@@ -56,7 +56,7 @@ module _ (kind : ℕ) where
             short = omega arith;
             few = omega (
               arith,
-              length_replicate {A = ℕ} (trace.two a b) 0,
+              length-replicate {A = ℕ} (trace.two a b) 0,
               leb-true (trace.two a b) 1024 (left_true (leb (trace.two a b) 1024) (trace.is_flag c) e),
             );
             read = k;
@@ -76,7 +76,7 @@ module _ (kind : ℕ) where
     where
       by : (t : Bool) → leb (trace.two a b) 2048 ≡ t → Asked kind (a ∷ b ∷ []) (trace.transmit_record_on t (trace.two a b))
       by true e =
-          record { short = omega arith; few = omega (arith, length_replicate {A = ℕ} (trace.two a b) 0, leb-true (trace.two a b) 2048 e); read = tt }
+          record { short = omega arith; few = omega (arith, length-replicate {A = ℕ} (trace.two a b) 0, leb-true (trace.two a b) 2048 e); read = tt }
       by false e = tt
   transmit_asks (a ∷ b ∷ c ∷ bs) = tt
 

@@ -4,7 +4,7 @@ use native.Mathlib.Omega.{arith}
 use mathlib.Core.Path.{◌≡◌, refl, ap, ◌∙◌}
 use mathlib.Core.Bool.{Bool, true, false, ◌&&◌, ◌||◌, cond}
 use mathlib.Core.List.{List, [], ◌∷◌, ◌++◌, reverse}
-use lib.ListN.{length, take, drop, length_append, length_reverse, length-drop}
+use lib.ListN.{length, take, drop, length-append, length-reverse, length-drop}
 use lib.Dec.{ltb, leb, eqb}
 use borrow.Author.Tests.{ltb-true, ltb-false, leb-true}
 use Rattle.rules.specs.Types.{Settings, Event, Good, Parity, Framing, Break, Tick, Hangup, Call, Set, Receive, Read, Write, Transmit, Flush}
@@ -71,7 +71,7 @@ queued_within : (z : Sizes) (x : Settings) (o : Output) (bs : List ℕ) → Outp
     → OutputWithin z (queued x o bs)
 queued_within z x o bs h r =
     record {
-      queue = rw length_append (leb-true (length o.queue + length bs) z.output r);
+      queue = rw length-append (leb-true (length o.queue + length bs) z.output r);
       column = columns_within x o.column bs h.column;
     }
 
@@ -99,7 +99,7 @@ total (u ∷ us) = length u + total us
 total_joined : (p : Place) (us : List (List Place)) → total (joined p us) ≡ suc (total us)
 unfolding total
 total_joined p [] = refl
-total_joined p (u ∷ us) = simp length_append (omega arith)
+total_joined p (u ∷ us) = simp length-append (omega arith)
 
 total_units : (l : List Place) → total (units l) ≡ length l
 unfolding total
@@ -111,7 +111,7 @@ total_units (p ∷ ps) =
 total_places : (us : List (List Place)) → length (places_of us) ≡ total us
 unfolding total
 total_places [] = refl
-total_places (u ∷ us) = simp (length_append, length_reverse, total_places us)
+total_places (u ∷ us) = simp (length-append, length-reverse, total_places us)
 
 total_drop : (n : ℕ) (us : List (List Place)) → total (drop n us) ≤ total us
 unfolding total
@@ -150,7 +150,7 @@ unit_unmarked silent b [] = refl
 unit_unmarked silent b (c ∷ cs) = unit_unmarked silent b cs
 
 pub stored_length : (i : Input) → length (stored i) ≡ used i
-stored_length i = length_append i.finished (reverse i.current) ∙ ap (◌+◌ (length i.finished)) (length_reverse i.current)
+stored_length i = length-append i.finished (reverse i.current) ∙ ap (◌+◌ (length i.finished)) (length-reverse i.current)
 
 none_unmarked : (l : List Place) → length l ≡ 0 → has_mark (reverse l) ≡ false
 none_unmarked [] e = refl
@@ -160,7 +160,7 @@ kept_within : (z : Sizes) (c : Bool) (i : Input) (u : List Place) → has_mark u
     → unit_fits c z i (length u) ≡ true → InputWithin z c (kept_in c i u)
 kept_within z true i u m h f =
     let e : (leb (length i.current + length u) z.line ≡ true) × (ltb (used i + length u) z.input ≡ true) = and_true _ _ f in
-    let n : length (reverse u ++ i.current) ≡ length u + length i.current = simp (length_append, length_reverse) in
+    let n : length (reverse u ++ i.current) ≡ length u + length i.current = simp (length-append, length-reverse) in
     record {
       places = omega (arith, ltb-true (used i + length u) z.input e.1);
       line = omega (arith, leb-true (length i.current + length u) z.line e.0);
@@ -168,7 +168,7 @@ kept_within z true i u m h f =
     }
 kept_within z false i u m h f =
     record {
-      places = omega (arith, length_append (stored i) u, stored_length i, leb-true (used i + length u) z.input f);
+      places = omega (arith, length-append (stored i) u, stored_length i, leb-true (used i + length u) z.input f);
       line = omega arith;
       raw = (refl, mark_append (stored i) u (mark_append i.finished (reverse i.current) h.raw.1 (none_unmarked i.current h.raw.0)) m);
     }
@@ -178,7 +178,7 @@ last_unmarked p [] e m = rw m
 last_unmarked p (q ∷ qs) e m = absurd (omega arith)
 
 longer : (i : Input) (p : Place) → length (i.finished ++ reverse (p ∷ i.current)) ≡ length i.finished + suc (length i.current)
-longer i p = length_append i.finished (reverse (p ∷ i.current)) ∙ ap (◌+◌ (length i.finished)) (length_reverse (p ∷ i.current))
+longer i p = length-append i.finished (reverse (p ∷ i.current)) ∙ ap (◌+◌ (length i.finished)) (length-reverse (p ∷ i.current))
 
 ended_within : (z : Sizes) (c : Bool) (i : Input) (p : Place) (l : Bool) → (c ≡ false → p.mark ≡ false) → InputWithin z c i → end_fits z i ≡ true
     → InputWithin z c (record { finished = i.finished ++ reverse (p ∷ i.current); current = []; literal_next = l })

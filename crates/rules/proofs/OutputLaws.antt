@@ -5,7 +5,7 @@ use native.Mathlib.Numerals.{add-one}
 use mathlib.Core.Path.{◌≡◌, refl, sym, ap, subst, ◌∙◌}
 use mathlib.Core.Bool.{Bool, true, false, cond}
 use mathlib.Core.List.{List, [], ◌∷◌, ◌++◌, append_assoc}
-use lib.ListN.{length, take, get_or, length_append}
+use lib.ListN.{length, take, get_or, length-append}
 use lib.Seq.{take-suc}
 use Rattle.rules.specs.Types.{Settings}
 use Rattle.rules.specs.Sizes.{Output}
@@ -48,7 +48,7 @@ processed_snoc x c a b =
 -- the first bytes of a run take no more room than the run
 pub processed_part : (x : Settings) (c : ℕ) (a b : List ℕ) → length (processed x c a) ≤ length (processed x c (a ++ b))
 processed_part x c a b =
-    omega (arith, ap length (processed_append x c a b), length_append (processed x c a) (processed x (columns_after x c (processed x c a)) b))
+    omega (arith, ap length (processed_append x c a b), length-append (processed x c a) (processed x (columns_after x c (processed x c a)) b))
 
 -- one turn of a loop over a run
 pub written_next : (x : Settings) (o : Output) (j : ℕ) (bs : List ℕ) → j < length bs
@@ -72,7 +72,7 @@ written_more N x o b bs le more true r =
     let e : List ℕ = expand x o.column b in
     let n : ℕ = taken N x (length o.queue + length e) (columns_after x o.column e) bs in
     subst (λ (w : Output). length w.queue ≤ N) (sym (queued_append x o e (processed x (columns_after x o.column e) (take n bs))))
-    (more (rw length_append (leb-true (length o.queue + length e) N r)))
+    (more (rw length-append (leb-true (length o.queue + length e) N r)))
 written_more N x o b bs le more false r = rw append_nil le
 
 pub taken_fits : (N : ℕ) (x : Settings) (o : Output) (bs : List ℕ) → length o.queue ≤ N
@@ -81,5 +81,5 @@ taken_fits N x o [] le = rw append_nil le
 taken_fits N x o (b ∷ bs) le =
     let e : List ℕ = expand x o.column b in
     written_more N x o b bs le
-    (λ w. rw (← length_append o.queue e) (taken_fits N x (queued x o e) bs w))
+    (λ w. rw (← length-append o.queue e) (taken_fits N x (queued x o e) bs w))
     (room N (length o.queue) e) refl

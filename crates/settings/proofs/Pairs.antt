@@ -1,7 +1,7 @@
 -- The scans over the special characters, in rules' words `elem`, `enabled_of` and `distinct`. Assumes nothing.
 use Prim.Native.Nat.{ℕ, ◌+◌, ◌<◌, ◌≤◌}
 use mathlib.Core.Path.{◌≡◌, refl, ap, sym, ◌∙◌}
-use mathlib.Core.Bool.{Bool, true, false, not, ◌&&◌, ◌||◌, cond, and_true, and-false, not-not}
+use mathlib.Core.Bool.{Bool, true, false, not, ◌&&◌, ◌||◌, cond, and-true, and-false, not-not}
 use mathlib.Core.List.{List, [], ◌∷◌}
 use native.Mathlib.Numerals.{add-one}
 use lib.ListN.{length, get_or, drop, drop_of_length-le}
@@ -13,7 +13,7 @@ use Rattle.rules.specs.declared.Settings.{Settings}
 
 -- b among the enabled, where t says whether the first is enabled
 elem_on : (t : Bool) (b c : ℕ) (es : List ℕ) → elem b (cond t (c ∷ es) es) ≡ ((eqb b c && t) || elem b es)
-elem_on true b c es = ap (λ (x : Bool). x || elem b es) (sym (and_true (eqb b c)))
+elem_on true b c es = ap (λ (x : Bool). x || elem b es) (sym (and-true (eqb b c)))
 elem_on false b c es = ap (λ (x : Bool). x || elem b es) (sym (and-false (eqb b c)))
 
 elem_step : (b c : ℕ) (cs : List ℕ) → elem b (enabled_of (c ∷ cs)) ≡ (is b c || elem b (enabled_of cs))

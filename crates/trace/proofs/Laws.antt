@@ -6,7 +6,7 @@ use native.Mathlib.Omega.{arith}
 use mathlib.Core.Path.{◌≡◌, refl, sym, ap, ap₂, subst, ◌∙◌}
 use mathlib.Core.Bool.{Bool, true, false}
 use mathlib.Core.List.{List, ◌++◌, append_assoc}
-use lib.ListN.{length, take, drop, get_or, set, length_append, replicate}
+use lib.ListN.{length, take, drop, get_or, set, length-append, replicate}
 use lib.Seq.{paste, paste-zero, paste-suc, length-paste, length-take-le, take_at, take_all}
 use lib.Dec.{eqb}
 use Rattle.rules.specs.declared.Answer.{Answer}
@@ -206,7 +206,7 @@ module _ {kind : ℕ} {body : List ℕ} {d : Decoded} (h : Decodes kind body d) 
               ∙ take_at (handed reply) (drop (length (handed reply)) (take n m) ++ drop n m) g long
               ∙ ap (λ (y : State × Reply). handed y.1) same;
           upto =
-              omega (arith, long, ap length whole, length_append (handed reply) (drop (length (handed reply)) (take n m) ++ drop n m));
+              omega (arith, long, ap length whole, length-append (handed reply) (drop (length (handed reply)) (take n m) ++ drop n m));
           now = record { state = s.now.state ∙ ap (λ (y : State × Reply). y.0) same; sizes = s.now.sizes };
           exact =
               made p bs ms os l m l' bs' ms' os' r (answered_of p bs ms os kind body).1.answer lm

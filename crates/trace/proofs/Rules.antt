@@ -6,7 +6,7 @@ use mathlib.Core.Path.{◌≡◌, refl, sym, ap, ap₂, subst, ◌∙◌}
 use mathlib.Core.Bool.{Bool, cond}
 use mathlib.Core.List.{List, [], ◌∷◌, ◌++◌}
 use mathlib.Core.Logic.{⊎_elim}
-use lib.ListN.{length, take, drop, length_append, length-take}
+use lib.ListN.{length, take, drop, length-append, length-take}
 use lib.Seq.{drop-append-add}
 use borrow.Author.Tests.{le-leb, lt-leb}
 use Rattle.rules.specs.Sizes.{Sizes, State}
@@ -86,7 +86,7 @@ module _ (z : Sizes) (i : ℕ) (s : State) (a b c d : ℕ) (p q rest : List ℕ)
   size = two a b
 
   joined : length (p ++ rest) ≡ length (q ++ rest)
-  joined = length_append p rest ∙ ap (λ (k : ℕ). k + length rest) e ∙ sym (length_append q rest)
+  joined = length-append p rest ∙ ap (λ (k : ℕ). k + length rest) e ∙ sym (length-append q rest)
 
   behind : drop size (p ++ rest) ≡ drop size (q ++ rest)
   behind = drop_past p rest size le ∙ ap (λ (k : ℕ). drop (size - k) rest) e ∙ sym (drop_past q rest size (subst (λ (k : ℕ). k ≤ size) e le))

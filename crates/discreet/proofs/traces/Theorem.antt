@@ -2,8 +2,8 @@
 use Prim.Native.Nat.{ℕ, zero, suc, ◌/◌, ◌%◌, ◌≤◌}
 use native.Mathlib.Omega.{arith}
 use mathlib.Core.Path.{◌≡◌, refl, sym, ap, subst, ◌∙◌}
-use mathlib.Core.List.{List, [], ◌∷◌, ◌++◌, append_assoc, append_nil}
-use lib.ListN.{length, length_append}
+use mathlib.Core.List.{List, [], ◌∷◌, ◌++◌, append_assoc, append-nil}
+use lib.ListN.{length, length-append}
 use lib.Seq.{take-append_seam, drop-append_seam}
 use borrow.Author.Tests.{le-leb}
 use Rattle.rules.specs.declared.Settings.{Settings}
@@ -27,7 +27,7 @@ two_of n = omega arith
 
 body_of : (n k : ℕ) (body l : List ℕ) → n ≡ length body → body_of n k (body ++ l) ≡ a_record k body l
 body_of n k body l e =
-    let le : length body ≤ length (body ++ l) = rw (length_append body l) (omega arith) in
+    let le : length body ≤ length (body ++ l) = rw (length-append body l) (omega arith) in
     rw (e, le-leb (length body) (length (body ++ l)) le, take-append_seam body l, drop-append_seam body l)
 
 front_of : (r : Rec) (l : List ℕ) → front (encoded r ++ l) ≡ a_record r.kind r.body l
@@ -189,7 +189,7 @@ module _ (z : Sizes) (rs ts : List Rec) (tail : List ℕ) (x : Settings) (q : Qu
   led (suc limit) index s [] h =
       let none_yet : trace_from z (suc limit) index s [] ≡ [] = by_front z limit index s [] in
       (_, _, after_none _ _ none_yet, after_none _ _ none_yet, from_here z rs ts tail x q ds e (suc limit) index s h)
-  led zero index s (r ∷ before) h = ([], [], sym (append_nil (full_line index)), sym (append_nil (full_line index)), ends)
+  led zero index s (r ∷ before) h = ([], [], sym (append-nil (full_line index)), sym (append-nil (full_line index)), ends)
   led (suc limit) index s (r ∷ before) h =
       follow_line x (calls_of rs) (calls_of ts) (line index r.kind (answered z s (meant r)).1) _ _ _ _ _ _
       (by_record z limit index s r (encoded_all before)) (by_records z limit index s r before (encoded_all rs ++ tail))

@@ -5,7 +5,7 @@ use mathlib.Core.List.{List, [], ◌∷◌, ◌++◌, append_assoc}
 use Prim.Native.Nat.{ℕ, zero, suc, ◌+◌, ◌-◌, ◌<◌, ◌≤◌, min}
 use native.Mathlib.Nat.{le_antisymm}
 use native.Mathlib.Omega.{arith}
-use lib.ListN.{length, get_or, length_append}
+use lib.ListN.{length, get_or, length-append}
 use lib.Dec.{leb}
 use borrow.Author.Tests.{le-leb, lt-leb, leb-true, leb-false}
 use Rattle.queue.specs.Queue.{held}
@@ -74,9 +74,9 @@ runs_more x o p r l m n a e le f s =
     let col : p.column ≡ columns_after x o.column pa = column_after_lem o p l m w f ∙ got_column x o l pa in
     let both : pa ++ pe ≡ processed x o.column (a ++ e) =
     ap (λ (c : ℕ). pa ++ processed x c e) col ∙ sym (processed_append x o.column a e) in
-    let long : length pa + length pe ≡ length (processed x o.column (a ++ e)) = sym (length_append pa pe) ∙ ap length both in
+    let long : length pa + length pe ≡ length (processed x o.column (a ++ e)) = sym (length-append pa pe) ∙ ap length both in
     let fits : length (get o l).queue + length pa ≤ length l = omega arith in
-    let wide : length w.queue ≡ length (get o l).queue + length pa = length_append (get o l).queue pa in
+    let wide : length w.queue ≡ length (get o l).queue + length pa = length-append (get o l).queue pa in
     let now : length (get p m).queue ≡ length (get o l).queue + length pa =
     ap (λ (v : Ruled). length v.queue) (get_after o p l m w f (omega arith)) ∙ wide in
     becomes o r l n (queued x (get o l) (pa ++ pe)) (queued x (get o l) (processed x o.column (a ++ e))) (ap (queued x (get o l)) both)

@@ -1,12 +1,12 @@
 -- Laws of a change of ICANON, and one lemma for each way out of the functions. Assumes nothing.
 use mathlib.Core.Path.{◌≡◌, refl, sym, ap, ◌∙◌}
 use mathlib.Core.Bool.{Bool, true, false, cond}
-use mathlib.Core.List.{List, [], ◌∷◌, ◌++◌, map, reverse, append_nil, map-append}
+use mathlib.Core.List.{List, [], ◌∷◌, ◌++◌, map, reverse, append-nil, map-append}
 use Prim.Native.Nat.{ℕ, zero, suc, ◌+◌, ◌*◌, ◌/◌, ◌%◌, ◌<◌, ◌≤◌, min}
 use native.Mathlib.Nat.{mod-mod, mod-add-mod}
 use native.Mathlib.Numerals.{add-one}
 use native.Mathlib.Omega.{arith}
-use lib.ListN.{length, get_or, set, take, length_append, length-map}
+use lib.ListN.{length, get_or, set, take, length-append, length-map}
 use lib.Seq.{take_all, take-suc, get_or-set_other}
 use lib.Dec.{ltb, eqb}
 use borrow.Author.Tests.{lt-ltb, eqb-true, eqb-false}
@@ -89,7 +89,7 @@ laid_after i bs ms w r bs' ms' e none le g =
           (ap (λ (l : List ℕ). places l (held r.queue ms')) hb
           ∙ ap (places (map byte_of f)) hm
           ∙ places_of f
-          ∙ sym (ap (λ (l : List Place). f ++ reverse l) (nothing w.current none) ∙ append_nil f))
+          ∙ sym (ap (λ (l : List Place). f ++ reverse l) (nothing w.current none) ∙ append-nil f))
           (ap (λ (x : Input). x.ready) g.input) (ap (λ (x : Input). x.literal) g.input);
       within =
           rw g.input (record { head = mod-mod i.queue.head N; len = le; ready = omega arith });
@@ -210,7 +210,7 @@ module _ (i : Input) (bs ms : List ℕ) (h : Sound i bs ms) where
         ∙ tt in
         let none : without_marks (p ∷ []) ≡ [] = ap (λ (x : Bool). cond x [] (p ∷ [])) mark in
         let same : kept_of i bs ms (k + 1) ≡ kept_of i bs ms k =
-        kept_next ∙ ap (◌++◌ (kept_of i bs ms k)) none ∙ append_nil (kept_of i bs ms k) in
+        kept_next ∙ ap (◌++◌ (kept_of i bs ms k)) none ∙ append-nil (kept_of i bs ms k) in
         record {
           upto = omega arith;
           count = ap length same ∙ g.count;
@@ -252,7 +252,7 @@ module _ (i : Input) (bs ms : List ℕ) (h : Sound i bs ms) where
         ∙ ap (stores (length ms) ms (q.head % length ms)) (by mark_of) in
         record {
           upto = omega arith;
-          count = ap length more ∙ length_append K (p ∷ []) ∙ ap (λ (x : ℕ). x + 1) g.count;
+          count = ap length more ∙ length-append K (p ∷ []) ∙ ap (λ (x : ℕ). x + 1) g.count;
           few = omega (arith, g.few);
           bytes = bytes;
           marks = marks;

@@ -1,7 +1,7 @@
 -- Laws of what a read takes, and one lemma for each way out of the functions. Assumes nothing.
 use mathlib.Core.Path.{◌≡◌, refl, sym, ap, ◌∙◌}
 use mathlib.Core.Logic.{⊎_elim}
-use mathlib.Core.List.{List, [], ◌∷◌, ◌++◌, reverse, append_nil}
+use mathlib.Core.List.{List, [], ◌∷◌, ◌++◌, reverse, append-nil}
 use Prim.Native.Nat.{ℕ, zero, suc, ◌+◌, ◌-◌, ◌%◌, ◌<◌, ◌≤◌, min}
 use native.Mathlib.Nat.{mod-mod}
 use native.Mathlib.Omega.{arith}
@@ -237,7 +237,7 @@ part_filled l d d' k ld ll e =
     ∙ ap (λ (x : ℕ). take x l ++ drop (length (take x l)) (take k d)) long
     ∙ ap (λ (x : ℕ). take k l ++ drop x (take k d)) (length-take-le k l ll)
     ∙ ap (◌++◌ (take k l)) (drop_of_length-le (take k d) {i = k} (omega (arith, long)))
-    ∙ append_nil (take k l)
+    ∙ append-nil (take k l)
 
 pub given_of_lem : (i : Input) (bs d : List ℕ) (k t : ℕ) (q : Queue) (f : QueueTaken) (d' : List ℕ) → Gives i bs d k t
     → Takes i.queue bs (take k d) f d'

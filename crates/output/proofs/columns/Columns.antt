@@ -5,7 +5,7 @@ use mathlib.Core.List.{List, [], ◌∷◌, ◌++◌}
 use Prim.Native.Nat.{ℕ, zero, suc, ◌+◌, ◌-◌, ◌<◌, ◌≤◌}
 use native.Mathlib.Numerals.{add-one}
 use native.Mathlib.Omega.{arith}
-use lib.ListN.{length, replicate, length_append}
+use lib.ListN.{length, replicate, length-append}
 use Rattle.rules.specs.declared.Settings.{Settings}
 use Rattle.rules.specs.Output.{expand, capped, column_after, columns_after, processed}
 use Rattle.rules.proofs.OutputLaws.{columns_append, processed_snoc, processed_part}
@@ -39,7 +39,7 @@ longer x m b c e bs ee ec =
 
 longer_length : (x : Settings) (m : Measure) (b c : ℕ) (e bs : List ℕ) → e ≡ expand x m.column b → m.column ≡ columns_after x c (processed x c bs)
     → length (processed x c (bs ++ (b ∷ []))) ≡ length (processed x c bs) + length e
-longer_length x m b c e bs ee ec = ap length (longer x m b c e bs ee ec) ∙ length_append (processed x c bs) e
+longer_length x m b c e bs ee ec = ap length (longer x m b c e bs ee ec) ∙ length-append (processed x c bs) e
 
 pub measured_full : (x : Settings) (m : Measure) (b w : ℕ) (e : List ℕ) → e ≡ expand x m.column b → w ≡ length e → m.room < w
     → Extends x m b (record { fits = false; room = 0; column = m.column })

@@ -6,7 +6,7 @@ use Rattle.output.specs.Contract.{get}
 use Rattle.output.specs.expansion.Contract.{expanded_bytes}
 use Rattle.rules.specs.Output.{queued}
 use mathlib.Core.List.{[], ◌∷◌}
-use lib.ListN.{length, length_replicate}
+use lib.ListN.{length, length-replicate}
 use native.Mathlib.Omega.{arith}
 use Prim.Native.Nat.{◌+◌, min}
 use mathlib.Core.Path.{◌≡◌, ap, ◌∙◌}
@@ -62,7 +62,7 @@ put-spaces-requires c κs =
     let start = c.before.before.before.before.before in
     let w : length (expanded_bytes start.args.expanded) ≡ at-expanded2.given.0.0 =
     ap (λ (k : Expansion). length (expanded_bytes k)) at-expanded2.given.1
-    ∙ length_replicate at-expanded2.given.0.0 32 in
+    ∙ length-replicate at-expanded2.given.0.0 32 in
     omega (arith, start.requires)
 
 returns : tie.Need-returns

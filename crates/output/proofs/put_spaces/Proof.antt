@@ -7,7 +7,7 @@ use Rattle.output.proofs.Laws.{range_len, range_get, start_run, same_size, len_n
 use Rattle.output.specs.Contract.{get, OutputBecomes}
 use Rattle.rules.specs.Output.{queued}
 use mathlib.Core.List.{[], ◌∷◌}
-use lib.ListN.{length, replicate, length_replicate}
+use lib.ListN.{length, replicate, length-replicate}
 use native.Mathlib.Omega.{arith}
 use Prim.Native.Nat.{ℕ, ◌+◌, ◌-◌, ◌≤◌, min}
 use mathlib.Core.Path.{◌≡◌}
@@ -38,7 +38,7 @@ put-byte-requires c κs =
     let n : p.result.queue.len ≡ min start.args.was.queue.len (length l) = range_len x start.args.was p.result l p.ensures in
     let k : loop.o.queue.len ≡ min p.result.queue.len (length l) + length (replicate {A = ℕ} loop.k 32) =
     len_now x p.result loop.o l loop.out (replicate loop.k 32) loop.invariant.1 in
-    let m : length (replicate {A = ℕ} loop.k 32) ≡ loop.k = length_replicate loop.k 32 in
+    let m : length (replicate {A = ℕ} loop.k 32) ≡ loop.k = length-replicate loop.k 32 in
     let z : length loop.out ≡ length l = same_size p.result loop.o l loop.out (queued x (get p.result l) (replicate loop.k 32))
     loop.invariant.1 in
     omega (arith, start.requires)
@@ -60,7 +60,7 @@ loop-again c =
     let n : p.result.queue.len ≡ min start.args.was.queue.len (length l) = range_len x start.args.was p.result l p.ensures in
     let k : loop.o.queue.len ≡ min p.result.queue.len (length l) + length (replicate {A = ℕ} loop.k 32) =
     len_now x p.result loop.o l loop.out (replicate loop.k 32) loop.invariant.1 in
-    let m : length (replicate {A = ℕ} loop.k 32) ≡ loop.k = length_replicate loop.k 32 in
+    let m : length (replicate {A = ℕ} loop.k 32) ≡ loop.k = length-replicate loop.k 32 in
     let z : length loop.out ≡ length l = same_size p.result loop.o l loop.out (queued x (get p.result l) (replicate loop.k 32))
     loop.invariant.1 in
     let one = at-put-byte in (
@@ -80,7 +80,7 @@ same_length c =
     let n : p.result.queue.len ≡ min start.args.was.queue.len (length l) = range_len x start.args.was p.result l p.ensures in
     let k : loop.o.queue.len ≡ min p.result.queue.len (length l) + length (replicate {A = ℕ} loop.k 32) =
     len_now x p.result loop.o l loop.out (replicate loop.k 32) loop.invariant.1 in
-    let m : length (replicate {A = ℕ} loop.k 32) ≡ loop.k = length_replicate loop.k 32 in
+    let m : length (replicate {A = ℕ} loop.k 32) ≡ loop.k = length-replicate loop.k 32 in
     let z : length loop.out ≡ length l = same_size p.result loop.o l loop.out (queued x (get p.result l) (replicate loop.k 32))
     loop.invariant.1 in
     z

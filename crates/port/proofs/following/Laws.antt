@@ -4,8 +4,8 @@ use Prim.Native.Nat.{ℕ, zero, suc, ◌+◌, ◌≤◌}
 use native.Mathlib.Omega.{arith}
 use mathlib.Core.Path.{◌≡◌, refl, sym, ap, ◌∙◌}
 use mathlib.Core.Bool.{Bool, true, false, cond}
-use mathlib.Core.List.{List, [], ◌∷◌, ◌++◌, reverse, append_nil, append_assoc, reverse-append}
-use lib.ListN.{length, take, drop, length_append}
+use mathlib.Core.List.{List, [], ◌∷◌, ◌++◌, reverse, append-nil, append_assoc, reverse-append}
+use lib.ListN.{length, take, drop, length-append}
 use lib.Seq.{take-append_seam}
 use lib.Dec.{ltb, leb, eqb}
 use borrow.Author.Tests.{ltb-true, leb-true}
@@ -53,7 +53,7 @@ cut_follows v w u e =
 
 cut_used : (v w : Input) (u : List Place) → stored v ≡ stored w ++ u → used w ≤ used v
 cut_used v w u e =
-    let n : length (stored v) ≡ length (stored w) + length u = ap length e ∙ length_append (stored w) u in
+    let n : length (stored v) ≡ length (stored w) + length u = ap length e ∙ length-append (stored w) u in
     omega (arith, n, stored_length v, stored_length w)
 
 edited_cut : (x : Settings) (e : Edit) (v : Input) → (u : List Place) × (stored v ≡ stored (edited x e v) ++ u)
@@ -73,7 +73,7 @@ whole_queue : (size : ℕ) (x : Settings) (o : Output) (bs : List ℕ) → lengt
 whole_queue size x o bs h = go (room size (length o.queue) bs) refl
   where
     go : (t : Bool) → room size (length o.queue) bs ≡ t → length (cond t (queued x o bs) o).queue ≤ size
-    go true e = rw length_append (leb-true (length o.queue + length bs) size e)
+    go true e = rw length-append (leb-true (length o.queue + length bs) size e)
     go false e = h
 
 ---- Each rule
@@ -85,7 +85,7 @@ follows_from v v' w e (fewer k h) = fewer k (h ∙ ap (take k) (sym e))
 
 module _ (z : Sizes) where
   pub stays : (s : State) → used s.input ≤ z.input → length s.output.queue ≤ z.output → Goes z s s
-  stays s p q = record { follows = grown [] (sym (append_nil (stored s.input))); places = p; queue = q }
+  stays s p q = record { follows = grown [] (sym (append-nil (stored s.input))); places = p; queue = q }
 
   shown_goes : (s t : State) (bs : List ℕ) → Goes z s t → Goes z s (shown z t bs)
   shown_goes s t bs g =
@@ -157,7 +157,7 @@ module _ (z : Sizes) where
   ---- A good byte, whatever it means
 
   pub carry_goes : (s : State) (m : Meaning) → Goes z s s → Goes z s (carry z s m).0
-  carry_goes s literal_next g = record { follows = grown [] (sym (append_nil (stored s.input))); places = g.places; queue = g.queue }
+  carry_goes s literal_next g = record { follows = grown [] (sym (append-nil (stored s.input))); places = g.places; queue = g.queue }
   carry_goes s (signals signal echo) g = shown_goes s (flushed_unless s.settings.noflsh s) echo (go s.settings.noflsh)
     where
       go : (t : Bool) → Goes z s (flushed_unless t s)

@@ -6,7 +6,7 @@ use mathlib.Core.List.{List, [], ◌∷◌, ◌++◌}
 use native.Mathlib.Nat.{add-zero, mod-eq_of_lt}
 use native.Mathlib.Numerals.{add-one}
 use native.Mathlib.Omega.{arith}
-use lib.ListN.{length, get_or, set, take, length_append}
+use lib.ListN.{length, get_or, set, take, length-append}
 use lib.Seq.{sets, length-sets, set_out, take-suc}
 use lib.Dec.{leb}
 use borrow.Author.Tests.{leb-true, leb-false, lt-ltb, le-ltb}
@@ -45,7 +45,7 @@ then {l} {m} {k} {a} {b} {i} {r} {q} x y =
     let x_place = x.place in
     let y_place = y.place in
     record {
-      place = simp length_append (omega arith);
+      place = simp length-append (omega arith);
       buffer =
           y.buffer ∙ ap (λ (z : List ℕ). sets z r b) x.buffer
           ∙ after_on l i r a b x_place (leb (i + length a) (length l)) refl

@@ -2,7 +2,7 @@
 use Prim.Native.Nat.{ℕ}
 use native.Mathlib.Omega.{arith}
 use borrow.Author.Tests.{eq-eqb, ne_eqb, lt-ltb, le-ltb, lt-leb, le-leb}
-use lib.ListN.{length, get_or, length_replicate}
+use lib.ListN.{length, get_or, length-replicate}
 use Rattle.records.specs.Bodies.{count}
 use Rattle.records.proofs.Bodies.{read_by}
 use borrow.Author.Rules.{rules}
@@ -41,7 +41,7 @@ returns-4 c =
       eq-eqb (length l) 3 c.before.before.if1.false,
       le-leb (count l) 1024 (omega arith),
       lt-ltb (get_or l 2 0) 2 (omega arith),
-      length_replicate {A = ℕ} (count l) 0,
+      length-replicate {A = ℕ} (count l) 0,
     )
 
 pub read-record-spec : {M : Type 1} → statement M

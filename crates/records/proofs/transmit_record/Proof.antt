@@ -2,7 +2,7 @@
 use Prim.Native.Nat.{ℕ}
 use native.Mathlib.Omega.{arith}
 use borrow.Author.Tests.{eq-eqb, ne_eqb, lt-leb, le-leb}
-use lib.ListN.{length, length_replicate}
+use lib.ListN.{length, length-replicate}
 use Rattle.records.specs.Bodies.{count}
 use Rattle.records.proofs.Bodies.{transmit_by}
 use borrow.Author.Rules.{rules}
@@ -30,7 +30,7 @@ returns-3 c =
       transmit_by l,
       eq-eqb (length l) 2 c.before.if1.false,
       le-leb (count l) 2048 (omega arith),
-      length_replicate {A = ℕ} (count l) 0,
+      length-replicate {A = ℕ} (count l) 0,
     )
 
 pub transmit-record-spec : {M : Type 1} → statement M

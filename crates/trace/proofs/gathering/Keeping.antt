@@ -7,7 +7,7 @@ use mathlib.Core.Path.{◌≡◌, refl, sym, ap, ap₂, ◌∙◌}
 use mathlib.Core.Bool.{Bool, true, false, cond}
 use mathlib.Core.List.{List, [], ◌∷◌, ◌++◌, append_assoc}
 use mathlib.Core.Logic.{⊎_elim}
-use lib.ListN.{length, take, set, replicate, length_append, length-take, length_replicate, length-set}
+use lib.ListN.{length, take, set, replicate, length-append, length-take, length-replicate, length-set}
 use lib.Seq.{take_all, take-add, take_at, drop_at, take-suc-set, set_out, get_or-set_other}
 use Rattle.rules.specs.Sizes.{Sizes, State}
 use Rattle.rules.specs.Trace as trace
@@ -32,8 +32,8 @@ zeros n = replicate n 0
 module _ (kept : List ℕ) where
   pub come_long : (have : ℕ) → length (come kept have) ≡ have
   come_long have =
-      length_append (take have kept) (replicate (have - length kept) 0)
-      ∙ omega (arith, length-take have kept, length_replicate {A = ℕ} (have - length kept) 0)
+      length-append (take have kept) (replicate (have - length kept) 0)
+      ∙ omega (arith, length-take have kept, length-replicate {A = ℕ} (have - length kept) 0)
 
   pub come_short : (have : ℕ) → have ≤ length kept → come kept have ≡ take have kept
   come_short have le =
@@ -83,10 +83,10 @@ module _ (z : Sizes) (m i : ℕ) (s : State) where
           let p : List ℕ = (k ++ zeros (have - length l)) ++ (b ∷ []) in
           let q : List ℕ = k ++ zeros (have + 1 - length l) in
           let long_p : length p ≡ length k + (have - length l) + 1 =
-          length_append (k ++ zeros (have - length l)) (b ∷ [])
-          ∙ omega (arith, length_append k (zeros (have - length l)), length_replicate {A = ℕ} (have - length l) 0) in
+          length-append (k ++ zeros (have - length l)) (b ∷ [])
+          ∙ omega (arith, length-append k (zeros (have - length l)), length-replicate {A = ℕ} (have - length l) 0) in
           let long_q : length q ≡ length k + (have + 1 - length l) =
-          length_append k (zeros (have + 1 - length l)) ∙ omega (arith, length_replicate {A = ℕ} (have + 1 - length l) 0) in
+          length-append k (zeros (have + 1 - length l)) ∙ omega (arith, length-replicate {A = ℕ} (have + 1 - length l) 0) in
           ap (λ (y : List ℕ). trace_from z m i s ((y ++ zeros (have - length l)) ++ (b ∷ x))) (take_all have l (omega arith))
           ∙ ap (λ (y : List ℕ). trace_from z m i s (a₀ ∷ a₁ ∷ a₂ ∷ a₃ ∷ y)) (sym (append_assoc (k ++ zeros (have - length l)) (b ∷ []) x))
           ∙ blind z i s a₀ a₁ a₂ a₃ p q x (omega (arith, long_p, long_q)) (omega (arith, long_p)) (omega (arith, long_p)) m
@@ -132,10 +132,10 @@ module _ (z : Sizes) (m i : ℕ) (s : State) (x : List ℕ) where
       let kind : ℕ = two c d in
       let body : List ℕ = body_of a b c d k in
       let long : length body ≡ n =
-      length_append (take n k) (zeros (header + n - length l)) ∙ omega (arith, length-take n k, length_replicate {A = ℕ} (header + n - length l) 0) in
+      length-append (take n k) (zeros (header + n - length l)) ∙ omega (arith, length-take n k, length-replicate {A = ℕ} (header + n - length l) 0) in
       let same : decode kind body ≡ decode kind (take (min n most_body) k) = ⊎_elim (all_long long) all_kept (lt_or_le most_body n) in
       ap (λ (y : List ℕ). trace_from z (suc m) i s ((y ++ zeros (header + n - length l)) ++ x)) (take-add header n l)
-      ∙ trace_record z i s m a b c d (body ++ x) (omega (arith, length_append body x, long))
+      ∙ trace_record z i s m a b c d (body ++ x) (omega (arith, length-append body x, long))
       ∙ ap₂ (λ (y r : List ℕ). line i kind (answered z s (decode kind y)).1 ++ trace_from z m (suc i) (answered z s (decode kind y)).0 r)
       (take_at body x n long) (drop_at body x n long)
       ∙ ap (λ (v : trace.Decoded). line i kind (answered z s v).1 ++ trace_from z m (suc i) (answered z s v).0 x) same
@@ -172,8 +172,8 @@ module _ (z : Sizes) (m i : ℕ) (s : State) where
           let h : have ≡ header + (have - header) = omega arith in
           let body : List ℕ = take (have - header) k ++ zeros (have - length l) in
           let long : length body ≡ have - header =
-          length_append (take (have - header) k) (zeros (have - length l))
-          ∙ omega (arith, length-take (have - header) k, length_replicate {A = ℕ} (have - length l) 0) in
+          length-append (take (have - header) k) (zeros (have - length l))
+          ∙ omega (arith, length-take (have - header) k, length-replicate {A = ℕ} (have - length l) 0) in
           ap (λ (y : List ℕ). trace_from z (suc m) i s (y ++ zeros (have - length l))) (ap (λ (j : ℕ). take j l) h ∙ take-add header (have - header) l)
           ∙ trace_cut z i s m a b c d body (omega (arith, long))
 

@@ -6,7 +6,7 @@ use mathlib.Core.Path.{◌≡◌, refl, sym, ap, ap₂, subst, ◌∙◌}
 use mathlib.Core.Bool.{true, false}
 use mathlib.Core.List.{List, [], ◌++◌}
 use mathlib.Core.Logic.{inl, inr}
-use lib.ListN.{length, take, drop, get_or, length_append}
+use lib.ListN.{length, take, drop, get_or, length-append}
 use Rattle.rules.specs.Sizes.{Sizes, State}
 use Rattle.rules.specs.Refusals.{Reply, handed}
 use Rattle.rules.specs.Trace.{two, text, decimal, hex_or_dash, outcome_word, line, trace_from}
@@ -29,7 +29,7 @@ line_some i k r f =
     ++ hex_or_dash (handed r)) f
   where
     no_end : (t : List ℕ) → t ++ text "\n" ≡ [] → ⊥
-    no_end t e = omega (arith, ap length e, length_append t (text "\n"))
+    no_end t e = omega (arith, ap length e, length-append t (text "\n"))
 
 module _ {stream : Stream} {bs ms os kept piece l : List ℕ} {t : Taken} {kept' l₁ : List ℕ} (h : TakesIn stream kept piece l t kept' l₁) where
   pub feeds_passed : t.complete ≡ false

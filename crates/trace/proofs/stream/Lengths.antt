@@ -3,7 +3,7 @@ use Prim.Native.Nat.{ℕ, zero, suc, ◌+◌, ◌/◌, ◌%◌, ◌≤◌}
 use native.Mathlib.Omega.{arith}
 use mathlib.Core.Bool.{Bool, true, false, cond}
 use mathlib.Core.List.{[], ◌∷◌, ◌++◌, List}
-use lib.ListN.{length, length_append, take, length-take}
+use lib.ListN.{length, length-append, take, length-take}
 use lib.Dec.{ltb, eqb}
 use Rattle.rules.specs.Trace.{text, digits, decimal, cut_line, full_line, hex, hex_or_dash, signal_word, verdict_word, outcome_word, well_formed, malformed}
 use Rattle.rules.specs.Trace.{decode, answered, line}
@@ -35,13 +35,13 @@ digits_short (suc k) n = by (ltb n 10) (digits_short k (n / 10))
   where
     by : (t : Bool) → length (digits k (n / 10)) ≤ k → length (cond t ((48 + n) ∷ []) (digits k (n / 10) ++ ((48 + n % 10) ∷ []))) ≤ suc k
     by true le = omega arith
-    by false le = omega (arith, length_append (digits k (n / 10)) ((48 + n % 10) ∷ []))
+    by false le = omega (arith, length-append (digits k (n / 10)) ((48 + n % 10) ∷ []))
 
 pub cut_at_most : (i : ℕ) → length (cut_line i) ≤ most_line
-cut_at_most i = omega (arith, length_append (decimal i) (text " cut\n"), digits_short 5 i)
+cut_at_most i = omega (arith, length-append (decimal i) (text " cut\n"), digits_short 5 i)
 
 pub full_at_most : (i : ℕ) → length (full_line i) ≤ most_line
-full_at_most i = omega (arith, length_append (decimal i) (text " full\n"), digits_short 5 i)
+full_at_most i = omega (arith, length-append (decimal i) (text " full\n"), digits_short 5 i)
 
 ---- No line has more than 4,123 bytes. Assumes nothing
 
@@ -79,7 +79,7 @@ module _ (z : Sizes) (s : State) (l : List ℕ) where
   handed_short (Read nonblocking) =
       read_short s (length l) s.hung_up (reads.clashes s.waiting nonblocking (length l)) (eqb (length l) 0) nonblocking
   handed_short Write = omega (arith, handed_count z s l Write)
-  handed_short Transmit = omega (arith, oldest_short s (length l), length_append (rule.oldest s.output (length l)) [])
+  handed_short Transmit = omega (arith, oldest_short s (length l), length-append (rule.oldest s.output (length l)) [])
   handed_short (Flush choice) = omega (arith, handed_count z s l (Flush choice))
   handed_short Cancel = omega (arith, handed_count z s l Cancel)
   handed_short (Foreground group orphaned) = omega (arith, handed_count z s l (Foreground group orphaned))
@@ -110,7 +110,7 @@ outcome_short Ok = omega arith
 outcome_short Wait = omega arith
 outcome_short (Reports g) = signal_short g
 outcome_short (Judged v) = verdict_short v
-outcome_short (Refused r) = omega (arith, length_append (text "r") (decimal (number_of r)), digits_short 5 (number_of r))
+outcome_short (Refused r) = omega (arith, length-append (text "r") (decimal (number_of r)), digits_short 5 (number_of r))
 
 hex_length : (l : List ℕ) → length (hex l) ≡ length l + length l
 hex_length [] = refl
@@ -126,15 +126,15 @@ ten : (a b c d e f g h i j : List ℕ) → length (a ++ b ++ c ++ d ++ e ++ f ++
 ten a b c d e f g h i j =
     omega (
       arith,
-      length_append a b,
-      length_append (a ++ b) c,
-      length_append (a ++ b ++ c) d,
-      length_append (a ++ b ++ c ++ d) e,
-      length_append (a ++ b ++ c ++ d ++ e) f,
-      length_append (a ++ b ++ c ++ d ++ e ++ f) g,
-      length_append (a ++ b ++ c ++ d ++ e ++ f ++ g) h,
-      length_append (a ++ b ++ c ++ d ++ e ++ f ++ g ++ h) i,
-      length_append (a ++ b ++ c ++ d ++ e ++ f ++ g ++ h ++ i) j,
+      length-append a b,
+      length-append (a ++ b) c,
+      length-append (a ++ b ++ c) d,
+      length-append (a ++ b ++ c ++ d) e,
+      length-append (a ++ b ++ c ++ d ++ e) f,
+      length-append (a ++ b ++ c ++ d ++ e ++ f) g,
+      length-append (a ++ b ++ c ++ d ++ e ++ f ++ g) h,
+      length-append (a ++ b ++ c ++ d ++ e ++ f ++ g ++ h) i,
+      length-append (a ++ b ++ c ++ d ++ e ++ f ++ g ++ h ++ i) j,
     )
 
 reply_short : (i k : ℕ) (r : Reply) → length (handed r) ≤ most_lent → length (line i k r) ≤ most_line

@@ -4,7 +4,7 @@ use native.Mathlib.Omega.{arith}
 use mathlib.Core.Path.{◌≡◌, refl, sym, ap, ◌∙◌}
 use mathlib.Core.Bool.{Bool, true, false, not, cond, true≢false}
 use mathlib.Core.List.{List, [], ◌++◌}
-use lib.ListN.{length, drop, length_append}
+use lib.ListN.{length, drop, length-append}
 use borrow.Author.Tests.{ltb-false}
 use Rattle.rules.specs.Trace.{full_line, trace_from}
 use Rattle.rules.proofs.OutputLaws.{append_nil}
@@ -68,7 +68,7 @@ module _ {stream : Stream} {kept piece l : List ℕ} where
               going stream bs ms os kept (piece ++ rest) d
               ∙ trace_full (sizes stream.port bs ms os) stream.index (get stream.port bs ms os) (most_records - stream.index)
               (pending kept stream.have ++ (piece ++ rest)) (omega arith)
-              (λ f. some (omega (arith, f, length_append (pending kept stream.have) (piece ++ rest), length_append piece rest)))
+              (λ f. some (omega (arith, f, length-append (pending kept stream.have) (piece ++ rest), length-append piece rest)))
               ∙ sym (append_nil (full_line stream.index));
         };
         completed = λ f. absurd (true≢false (sym f));

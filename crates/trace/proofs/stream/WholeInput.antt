@@ -5,7 +5,7 @@ use Rattle.queue.proofs.Rings.{lt_or_le}
 use mathlib.Core.Path.{◌≡◌, refl, sym, ap, ap₂, subst, ◌∙◌}
 use mathlib.Core.List.{List, [], ◌++◌, append_assoc}
 use mathlib.Core.Logic.{⊎_elim}
-use lib.ListN.{length, take, drop, length_append, length-take, length-drop, drop_of_length-le}
+use lib.ListN.{length, take, drop, length-append, length-take, length-drop, drop_of_length-le}
 use lib.Seq.{take_at, drop_at, take_all, take-nil, take-append-le, take-append-add, drop-drop}
 use borrow.Rule.Slice.PartMut.{put_mid}
 use Rattle.rules.specs.Trace.{trace}
@@ -36,7 +36,7 @@ module _ (d₀ p t : List ℕ) where
 
   long_holding : length (Holding d₀ p) ≡ N
   long_holding =
-      length_append (take N p) (drop (length p) d₀) ∙ omega (arith, length-take N p, length-drop (length p) d₀)
+      length-append (take N p) (drop (length p) d₀) ∙ omega (arith, length-take N p, length-drop (length p) d₀)
 
   -- there is room for more
   room : length p < N → take w (Holding d₀ p) ++ (take (length (drop w (Holding d₀ p))) t ++ drop (length t) (drop w (Holding d₀ p))) ≡ Holding d₀ (p ++ t)
@@ -60,7 +60,7 @@ module _ (d₀ p t : List ℕ) where
           ap (λ (j : ℕ). take j (p ++ t)) k ∙ take-append-add p t (N - length p)
 
       drop_drop_sum : drop (length t) (drop (length p) d₀) ≡ drop (length (p ++ t)) d₀
-      drop_drop_sum = drop-drop (length t) (length p) d₀ ∙ ap (λ (k : ℕ). drop k d₀) (sym (length_append p t))
+      drop_drop_sum = drop-drop (length t) (length p) d₀ ∙ ap (λ (k : ℕ). drop k d₀) (sym (length-append p t))
 
   -- there is none
   full : N ≤ length p → take w (Holding d₀ p) ++ (take (length (drop w (Holding d₀ p))) t ++ drop (length t) (drop w (Holding d₀ p))) ≡ Holding d₀ (p ++ t)
@@ -71,14 +71,14 @@ module _ (d₀ p t : List ℕ) where
       ∙ ap (λ (y : List ℕ). Holding d₀ p ++ y) (none_behind (length t) [] (omega arith))
       ∙ append_nil (Holding d₀ p)
       ∙ ap₂ (λ (x y : List ℕ). x ++ y) (sym (take-append-le N p t le))
-      (none_behind (length p) d₀ le ∙ sym (none_behind (length (p ++ t)) d₀ (omega (arith, length_append p t))))
+      (none_behind (length p) d₀ le ∙ sym (none_behind (length (p ++ t)) d₀ (omega (arith, length-append p t))))
 
   -- the text t is printed behind p
   pub printed_behind : (k : ℕ) (m : List ℕ) → Prints (drop w (Holding d₀ p)) t k m
       → (take w (Holding d₀ p) ++ m ≡ Holding d₀ (p ++ t)) × (w + k ≡ min (length (p ++ t)) N)
   printed_behind k m h = (
     ap (λ (y : List ℕ). take w (Holding d₀ p) ++ y) h.buffer ∙ ⊎_elim room full (lt_or_le (length p) N),
-    omega (arith, h.count, length-drop w (Holding d₀ p), long_holding, length_append p t),
+    omega (arith, h.count, length-drop w (Holding d₀ p), long_holding, length-append p t),
   )
 
 ---- The buffer from a place on

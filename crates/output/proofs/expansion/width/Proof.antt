@@ -1,7 +1,7 @@
 -- `output::expansion::width` meets its contract. Assumes nothing.
 use Rattle.output.specs.declared.expansion.Expansion.{Expansion}
 use Rattle.output.specs.expansion.Contract.{expanded_bytes}
-use lib.ListN.{length, length_replicate}
+use lib.ListN.{length, length-replicate}
 use mathlib.Core.Path.{sym, ap, ◌∙◌}
 use borrow.Author.Rules.{rules}
 use Rattle.output.proofs.expansion.width.Statement.{statement}
@@ -29,7 +29,7 @@ returns-3 : tie.Need-returns-3
 returns-3 c = search rules
 
 returns-4 : tie.Need-returns-4
-returns-4 c = sym (ap (λ (k : Expansion). length (expanded_bytes k)) c.before.expanded.given.1 ∙ length_replicate c.before.expanded.given.0.0 32)
+returns-4 c = sym (ap (λ (k : Expansion). length (expanded_bytes k)) c.before.expanded.given.1 ∙ length-replicate c.before.expanded.given.0.0 32)
 
 pub width_spec : {M : Type 1} → statement M
 width_spec =
