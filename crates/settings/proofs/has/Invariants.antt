@@ -1,0 +1,13 @@
+use Prim.Native.Nat.{◌≤◌, ◌-◌}
+use mathlib.Core.Path.{◌≡◌, refl, sym, ◌∙◌}
+use native.Mathlib.Omega.{arith}
+use lib.ListN.{length, drop}
+use Rattle.rules.specs.Settings.{elem, enabled_of}
+use Rattle.settings.proofs.Pairs.{elem_next, elem_end}
+use Rattle.settings.proofs.has.Given as goal
+
+abbrev pub invariant-loop-k : goal.invariant-loop-k
+invariant-loop-k l = (l.k ≤ length l.specials) × (elem l.b (enabled_of l.specials) ≡ elem l.b (enabled_of (drop l.k l.specials)))
+
+abbrev pub decreases-loop-k : goal.decreases-loop-k
+decreases-loop-k l = length l.specials - l.k
