@@ -1,0 +1,35 @@
+-- `input::canonical::one_line` meets its contract. Assumes nothing.
+use Prim.Native.Nat.{◌-◌}
+use native.Mathlib.Omega.{arith}
+use Rattle.input.proofs.canonical.GoesOn.{Lined, line_begin, line_next, line_end}
+use Rattle.input.proofs.canonical.one_line.Goals as goal
+
+pub loop-k-init : goal.loop-k-init
+loop-k-init c = line_begin c.args.i c.args.marks.now c.requires
+
+pub overflow_add-k : goal.overflow_add-k
+overflow_add-k c = omega arith
+
+pub overflow_add-k-in-loop-k : goal.overflow_add-k-in-loop-k
+overflow_add-k-in-loop-k c = omega arith
+
+pub loop-k-smaller : goal.loop-k-smaller
+loop-k-smaller c = omega arith
+
+pub loop-k-preserved : goal.loop-k-preserved
+loop-k-preserved c =
+    let at-change = c.change in
+    let at-in-line = c.in_line-joined in
+    let at_at = c.at-m in
+    let at-loop-test = c.loop-k-test in
+    let loop = c.loop-k in
+    line_next c.args.i c.args.marks.now c.requires loop.k at_at.result at-in-line.result loop.marks at-change.new.ring loop.invariant
+    at-loop-test.true at_at.ensures at-in-line.ensures at-change.ensures
+
+pub shape_of-marks : goal.shape_of-marks
+shape_of-marks c = c.loop-k.invariant.long
+
+pub returns : goal.returns
+returns c =
+    let loop = c.loop-k in
+    line_end c.args.i c.args.marks.now c.requires loop.k loop.marks loop.invariant c.loop-k-test.false

@@ -1,0 +1,10 @@
+use Prim.Native.Nat.{◌-◌}
+use native.Mathlib.Omega.{arith}
+use Rattle.input.proofs.canonical.GoesOn.{Lined, line_begin, line_next, line_end}
+use Rattle.input.proofs.canonical.one_line.Given as goal
+
+abbrev pub invariant-loop-k : goal.invariant-loop-k
+invariant-loop-k l = Lined l.i l.initial.marks l.k l.marks
+
+abbrev pub decreases-loop-k : goal.decreases-loop-k
+decreases-loop-k l = l.len - l.k

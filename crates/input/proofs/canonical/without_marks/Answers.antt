@@ -1,0 +1,52 @@
+-- `input::canonical::without_marks` meets its contract. Assumes nothing.
+use mathlib.Core.Path.{◌∙◌}
+use native.Mathlib.Omega.{arith}
+use Prim.Native.Nat.{◌-◌}
+use Rattle.input.proofs.canonical.GoesOff.{Keeps, keeps_begin, keeps_skip, keeps_more, keeps_end}
+use Rattle.input.proofs.canonical.without_marks.Goals as goal
+use Rattle.input.proofs.canonical.without_marks.Goals.{then-not-is_mark, else-not-is_mark}
+
+pub loop-k-init : goal.loop-k-init
+loop-k-init c =
+    keeps_begin c.args.i c.args.bytes.now c.args.marks.now c.requires
+
+pub overflow_add-kept : goal.overflow_add-kept
+overflow_add-kept c =
+    let at-loop-test = c.loop-k-test in
+    let at-loop = c.loop-k in
+    omega (arith, at-loop.invariant.few, at-loop-test.true)
+
+pub overflow_add-k : goal.overflow_add-k
+overflow_add-k c = omega arith
+
+pub loop-k-smaller : goal.loop-k-smaller
+loop-k-smaller c = omega arith
+
+pub loop-k-preserved : goal.loop-k-preserved
+loop-k-preserved c =
+    let bs = c.args.bytes.now in
+    let ms = c.args.marks.now in
+    let loop = c.loop-k in
+    let lt = c.loop-k-test.true in
+    let m = c.at-m in
+    let mark = c.is_mark in
+    elim c.if-not-is_mark.branch [
+      then-not-is_mark w ↦ rw w.kept-is
+          (keeps_more c.args.i bs ms c.requires loop.k loop.kept loop.bytes loop.marks loop.invariant lt
+          m.result w.at-b.result mark.result c.if-not-is_mark.bytes c.if-not-is_mark.marks m.ensures mark.ensures
+          w.if-not-is_mark.true w.at-b.ensures (w.bytes-is ∙ w.change.ensures) (w.marks-is ∙ w.change-then-not-is_mark.ensures))
+    | else-not-is_mark w ↦ rw (w.bytes-is, w.marks-is, w.kept-is)
+          (keeps_skip c.args.i bs ms c.requires loop.k loop.kept loop.bytes loop.marks loop.invariant lt
+          m.result mark.result m.ensures mark.ensures w.if-not-is_mark.false)
+    ]
+
+pub shape_of-bytes : goal.shape_of-bytes
+shape_of-bytes c = c.loop-k.invariant.long
+
+pub shape_of-marks : goal.shape_of-marks
+shape_of-marks c = c.loop-k.invariant.wide
+
+pub returns : goal.returns
+returns c =
+    keeps_end c.args.i c.args.bytes.now c.args.marks.now c.requires c.loop-k.k c.loop-k.kept c.loop-k.bytes c.loop-k.marks c.loop-k.invariant
+    c.loop-k-test.false

@@ -1,0 +1,13 @@
+-- `input::reading::give` meets its contract. Assumes nothing.
+use Rattle.input.proofs.reading.Laws.{part_length, given_of_lem}
+use Rattle.input.proofs.reading.give.Goals as goal
+
+pub slice_bounds-take-end-2 : goal.slice_bounds-take-end-2
+slice_bounds-take-end-2 c =
+    part_length c.args.count c.args.dst.now c.requires.room
+
+pub returns : goal.returns
+returns c =
+    let at_take = c.take in
+    given_of_lem c.args.i c.args.bytes.now c.args.dst.now c.args.count c.args.taken c.drop_oldest-queue.result at_take.result
+    at_take.new.dst c.requires at_take.ensures c.drop_oldest-queue.ensures

@@ -1,0 +1,14 @@
+use Rattle.output.proofs.columns.Columns.{spaces_next}
+use lib.ListN.{replicate}
+use native.Mathlib.Omega.{arith}
+use native.Mathlib.Nat.{le_antisymm}
+use Prim.Native.Nat.{ℕ, ◌≤◌, ◌-◌}
+use Rattle.rules.specs.Output.{columns_after}
+use mathlib.Core.Path.{◌≡◌, refl, ap, ◌∙◌}
+use Rattle.output.proofs.columns.column_after_spaces.Given as goal
+
+abbrev pub invariant-loop-k : goal.invariant-loop-k
+invariant-loop-k l = (l.k ≤ l.n) × (l.column ≡ columns_after l.x l.c (replicate l.k 32))
+
+abbrev pub decreases-loop-k : goal.decreases-loop-k
+decreases-loop-k l = l.n - l.k
