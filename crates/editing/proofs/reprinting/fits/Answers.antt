@@ -1,0 +1,35 @@
+-- `editing::reprinting::fits` meets its contract. Assumes nothing.
+use Prim.Native.Nat.{◌-◌}
+use native.Mathlib.Omega.{arith}
+use Rattle.editing.proofs.reprinting.Laws.{Measuring, measuring_none, measuring_next, measured_all}
+use Rattle.editing.proofs.reprinting.fits.Goals as goal
+
+pub loop-k-init : goal.loop-k-init
+loop-k-init c =
+    let a = c.args in
+    measuring_none a.x a.i a.bytes.now a.marks.now c.requires.bytes_len c.requires.within c.and-measure.result
+
+pub overflow_add-k : goal.overflow_add-k
+overflow_add-k c =
+    omega (arith, c.loop-k-test.true, c.requires.within.len)
+
+pub loop-k-smaller : goal.loop-k-smaller
+loop-k-smaller c = omega (arith, c.loop-k-test.true)
+
+pub loop-k-preserved : goal.loop-k-preserved
+loop-k-preserved c =
+    let l = c.loop-k in
+    let at-and = c.and-measure in
+    let a = c.args in
+    measuring_next a.x a.i a.bytes.now a.marks.now c.requires.bytes_len c.requires.within at-and.result l.k l.measure c.measured-measure.result l.invariant
+    c.loop-k-test.true c.measured-measure.ensures
+
+pub returns : goal.returns
+returns c =
+    let l = c.loop-k in
+    let m = c.and-measure in
+    let own = c.measured-own in
+    let begun = c.measure-begun in
+    let a = c.args in
+    measured_all a.x a.i a.bytes.now a.marks.now c.requires.bytes_len c.requires.within m.result a.o a.size a.b begun.result own.result
+    begun.ensures own.ensures m.ensures l.k l.measure l.invariant c.loop-k-test.false

@@ -1,0 +1,37 @@
+-- `editing::reprinting::of_reprinted` meets its contract. Assumes nothing.
+use Rattle.editing.proofs.reprinting.Laws.{room_for, reprints, reprints_nothing, reprints_unseen}
+use Rattle.editing.proofs.reprinting.of_reprinted.Goals as goal
+
+pub shown_line-requires : goal.shown_line-requires
+shown_line-requires c =
+    let t = c.fits in
+    let a = c.args in
+    record {
+      bytes_len = c.requires.bytes_len;
+      within = c.requires.within;
+      b_in_bounds =
+          room_for a.x a.o a.i a.bytes.now a.marks.now a.out.now a.b c.requires.bytes_len c.requires.within t.result
+          t.ensures c.if-fits.true;
+    }
+
+pub returns-then-fits : goal.returns-then-fits
+returns-then-fits c =
+    let r = c.shown_line in
+    let at-if1 = c.if-x in
+    let a = c.args in
+    reprints a.x a.o a.i a.bytes.now a.marks.now a.out.now a.b c.requires.bytes_len c.requires.within r.result r.new.out
+    at-if1.true r.ensures
+
+pub returns-then-x : goal.returns-then-x
+returns-then-x c =
+    let t = c.fits in
+    let at-if1 = c.if-x in
+    let a = c.args in
+    reprints_nothing a.x a.o a.i a.bytes.now a.marks.now a.out.now a.b c.requires.bytes_len c.requires.within t.result c.fit.result
+    at-if1.true t.ensures c.if-fits.false c.fit.ensures
+
+pub returns : goal.returns
+returns c =
+    let a = c.args in
+    reprints_unseen a.x a.o a.i a.bytes.now a.marks.now a.out.now a.b c.requires.bytes_len c.requires.within c.fit-2.result c.if-x.false
+    c.fit-2.ensures

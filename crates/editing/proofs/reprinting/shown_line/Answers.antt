@@ -1,0 +1,44 @@
+-- `editing::reprinting::shown_line` meets its contract. Assumes nothing.
+use Prim.Native.Nat.{◌-◌}
+use native.Mathlib.Omega.{arith}
+use Rattle.editing.proofs.reprinting.Laws.{Showing, showing_none, showing_next, shown_size, shown_all}
+use Rattle.editing.proofs.reprinting.shown_line.Goals as goal
+
+pub loop-k-init : goal.loop-k-init
+loop-k-init c =
+    let a = c.args in
+    let f = c.show_line-shows in
+    showing_none a.x a.i a.bytes.now a.marks.now c.requires.bytes_len c.requires.within f.result f.new.out
+
+pub overflow_add-k : goal.overflow_add-k
+overflow_add-k c =
+    omega (arith, c.loop-k-test.true, c.requires.within.len)
+
+pub loop-k-smaller : goal.loop-k-smaller
+loop-k-smaller c = omega (arith, c.loop-k-test.true)
+
+pub loop-k-preserved : goal.loop-k-preserved
+loop-k-preserved c =
+    let t = c.shown-shows in
+    let at-loop-test = c.loop-k-test in
+    let l = c.loop-k in
+    let f = c.show_line-shows in
+    let a = c.args in
+    showing_next a.x a.i a.bytes.now a.marks.now c.requires.bytes_len c.requires.within f.result f.new.out l.k l.shows t.result l.out
+    t.new.out l.invariant at-loop-test.true t.ensures
+
+pub shape_of-out : goal.shape_of-out
+shape_of-out c =
+    let l = c.loop-k in
+    let f = c.show_line-shows in
+    let a = c.args in
+    shown_size a.x a.i a.bytes.now a.marks.now c.requires.bytes_len c.requires.within f.result f.new.out a.o a.out.now a.b
+    c.requires.b_in_bounds f.ensures l.k l.shows l.out l.invariant
+
+pub returns : goal.returns
+returns c =
+    let l = c.loop-k in
+    let f = c.show_line-shows in
+    let a = c.args in
+    shown_all a.x a.i a.bytes.now a.marks.now c.requires.bytes_len c.requires.within f.result f.new.out a.o a.out.now a.b
+    c.requires.b_in_bounds f.ensures l.k l.shows l.out l.invariant c.loop-k-test.false

@@ -1,0 +1,17 @@
+use lib.Seq.{take_all}
+use Prim.Native.Nat.{ℕ, ◌-◌, ◌≤◌}
+use mathlib.Core.Path.{◌≡◌, ap, sym, ◌∙◌}
+use mathlib.Core.List.{[], ◌∷◌}
+use native.Mathlib.Omega.{arith}
+use lib.ListN.{length, take}
+use Rattle.records.specs.lines.Puts.{Puts}
+use Rattle.records.proofs.lines.Texts.{nothing, kept, same_text}
+use Rattle.records.proofs.lines.Hex.{hex_next, hex_none, hex_some}
+use Rattle.rules.specs.Trace.{hex}
+use Rattle.records.proofs.lines.put_hex.Given as goal
+
+abbrev pub invariant-loop-k : goal.invariant-loop-k
+invariant-loop-k l = (l.k ≤ length l.bytes) × Puts l.initial.line l.at (hex (take l.k l.bytes)) l.place l.line
+
+abbrev pub decreases-loop-k : goal.decreases-loop-k
+decreases-loop-k l = length l.bytes - l.k
