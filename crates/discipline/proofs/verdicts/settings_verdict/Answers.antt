@@ -1,0 +1,7 @@
+-- `discipline::verdicts::settings_verdict` meets its contract. Assumes nothing.
+use Rattle.port.specs.State.{get}
+use Rattle.discipline.proofs.verdicts.settings_verdict.Goals as goal
+
+pub returns : goal.returns
+unfolding get
+returns c = cc
