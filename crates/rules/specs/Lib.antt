@@ -1,6 +1,5 @@
 -- Document 01 as definitions, one file for each of its sections.
 pub mod Types
-pub mod Lent
 pub mod Sizes
 pub mod Settings
 pub mod Refusals

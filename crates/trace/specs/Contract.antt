@@ -4,7 +4,6 @@ use Rattle.rules.specs.declared.Answer.{Answer}
 use Rattle.rules.specs.declared.Call.{Call}
 use Rattle.rules.specs.declared.Call.TheVariants.{Set, Receive, Read, Write, Transmit, Flush, Cancel, Foreground, ReadVerdict, WriteVerdict}
 use Rattle.rules.specs.declared.Call.TheVariants.{SettingsVerdict}
-use Rattle.rules.specs.Lent.{Lent, before, after}
 use Rattle.rules.specs.Sizes.{State}
 use Rattle.rules.specs.Refusals.{Reply, handed}
 use Rattle.rules.specs.Trace.{decode, answered, line, well_formed, malformed}
@@ -63,16 +62,8 @@ pub record Carries (p : Port) (bs ms os : List ℕ) (kind : ℕ) (body l : List 
   pub now : Now p bs ms os (answered_of p bs ms os kind body).0 r.port bs' ms' os'
   pub exact : Exactly (decode kind body) p bs ms os l body (answered_of p bs ms os kind body).1.answer r.port bs' ms' os'
 
-abbrev pub CarriesLent : Port → Lent → Lent → Lent → ℕ → Lent → Lent → Carried → Type 0
-CarriesLent p bytes marks out kind body lent r =
-    Carries p (before bytes) (before marks) (before out) kind (before body) (before lent) r (after bytes) (after marks) (after out) (after lent)
-
 -- its line, as much of it as the buffer l holds; the record is carried out with a buffer of zeros
 pub record Records (p : Port) (bs ms os : List ℕ) (index kind : ℕ) (body l : List ℕ) (r : Recorded) (bs' ms' os' l' : List ℕ) : Type 0 where
   pub line : Prints l (line index kind (answered_of p bs ms os kind body).1) r.length l'
   pub now : Now p bs ms os (answered_of p bs ms os kind body).0 r.port bs' ms' os'
   pub exact : Exactly (decode kind body) p bs ms os (replicate most_lent 0) body (answered_of p bs ms os kind body).1.answer r.port bs' ms' os'
-
-abbrev pub RecordsLent : Port → Lent → Lent → Lent → ℕ → ℕ → Lent → Lent → Recorded → Type 0
-RecordsLent p bytes marks out index kind body line r =
-    Records p (before bytes) (before marks) (before out) index kind (before body) (before line) r (after bytes) (after marks) (after out) (after line)

@@ -25,15 +25,15 @@ use Rattle.discreet.specs.traces.Statement.{PrintedAlike, ends, prints, FromStat
 two_of : (n : ℕ) → two (n % 256) (n / 256) ≡ n
 two_of n = omega arith
 
-body_of : (n k : ℕ) (body l : List ℕ) → n ≡ length body → body_of n k (body ++ l) ≡ a_record k body l
-body_of n k body l e =
+body_of_lem : (n k : ℕ) (body l : List ℕ) → n ≡ length body → body_of n k (body ++ l) ≡ a_record k body l
+body_of_lem n k body l e =
     let le : length body ≤ length (body ++ l) = rw (length-append body l) (omega arith) in
     rw (e, le-leb (length body) (length (body ++ l)) le, take-append_seam body l, drop-append_seam body l)
 
 front_of : (r : Rec) (l : List ℕ) → front (encoded r ++ l) ≡ a_record r.kind r.body l
 front_of r l =
     ap (λ (k : ℕ). body_of (two (length r.body % 256) (length r.body / 256)) k (r.body ++ l)) (two_of r.kind)
-    ∙ body_of (two (length r.body % 256) (length r.body / 256)) r.kind r.body l (two_of (length r.body))
+    ∙ body_of_lem (two (length r.body % 256) (length r.body / 256)) r.kind r.body l (two_of (length r.body))
 
 ---- What is printed
 

@@ -122,15 +122,15 @@ module _ (z : Sizes) (m i : ℕ) (s : State) (x : List ℕ) where
       ≡ line i (kind_of kept) (answered z s (decode (kind_of kept) (body_of kept))).1
       ++ trace_from z m (suc i) (answered z s (decode (kind_of kept) (body_of kept))).0 x
 
-  abbrev body_of : ℕ → ℕ → ℕ → ℕ → List ℕ → List ℕ
-  body_of a b c d k = take (two a b) k ++ zeros (header + two a b - length (a ∷ b ∷ c ∷ d ∷ k))
+  abbrev body_held : ℕ → ℕ → ℕ → ℕ → List ℕ → List ℕ
+  body_held a b c d k = take (two a b) k ++ zeros (header + two a b - length (a ∷ b ∷ c ∷ d ∷ k))
 
   at_size : (a b c d : ℕ) (k : List ℕ) → length (a ∷ b ∷ c ∷ d ∷ k) ≡ most_kept → Printed (a ∷ b ∷ c ∷ d ∷ k)
   at_size a b c d k e =
       let l : List ℕ = a ∷ b ∷ c ∷ d ∷ k in
       let n : ℕ = two a b in
       let kind : ℕ = two c d in
-      let body : List ℕ = body_of a b c d k in
+      let body : List ℕ = body_held a b c d k in
       let long : length body ≡ n =
       length-append (take n k) (zeros (header + n - length l)) ∙ omega (arith, length-take n k, length-replicate {A = ℕ} (header + n - length l) 0) in
       let same : decode kind body ≡ decode kind (take (min n most_body) k) = ⊎_elim (all_long long) all_kept (lt_or_le most_body n) in
@@ -140,13 +140,13 @@ module _ (z : Sizes) (m i : ℕ) (s : State) (x : List ℕ) where
       (take_at body x n long) (drop_at body x n long)
       ∙ ap (λ (v : trace.Decoded). line i kind (answered z s v).1 ++ trace_from z m (suc i) (answered z s v).0 x) same
     where
-      all_long : length (body_of a b c d k) ≡ two a b → most_body < two a b
-          → decode (two c d) (body_of a b c d k) ≡ decode (two c d) (take (min (two a b) most_body) k)
+      all_long : length (body_held a b c d k) ≡ two a b → most_body < two a b
+          → decode (two c d) (body_held a b c d k) ≡ decode (two c d) (take (min (two a b) most_body) k)
       all_long long lt =
-          long_malformed (two c d) (body_of a b c d k) (omega (arith, long))
+          long_malformed (two c d) (body_held a b c d k) (omega (arith, long))
           ∙ sym (long_malformed (two c d) (take (min (two a b) most_body) k) (omega (arith, length-take (min (two a b) most_body) k)))
 
-      all_kept : two a b ≤ most_body → decode (two c d) (body_of a b c d k) ≡ decode (two c d) (take (min (two a b) most_body) k)
+      all_kept : two a b ≤ most_body → decode (two c d) (body_held a b c d k) ≡ decode (two c d) (take (min (two a b) most_body) k)
       all_kept le =
           let none : header + two a b - length (a ∷ b ∷ c ∷ d ∷ k) ≡ 0 = omega arith in
           let least : two a b ≡ min (two a b) most_body = omega arith in

@@ -7,7 +7,6 @@ use Rattle.port.specs.State.{sizes, get}
 use Rattle.trace.specs.gathering.Contract.{size_of, come, pending, kind_of, body_of}
 use Rattle.trace.specs.declared.stream.Stream.{Stream}
 use Rattle.trace.specs.declared.stream.Taken.{Taken}
-use Rattle.rules.specs.Lent.{Lent, before, after}
 use Rattle.port.specs.declared.Port.{Port}
 use Rattle.trace.specs.Contract.{Records}
 use Rattle.trace.specs.declared.stream.Fed.{Fed}
@@ -83,8 +82,3 @@ pub record Feeds (stream : Stream) (bs ms os kept piece l : List ℕ) (r : Fed) 
   pub along : (rest : List ℕ) → future stream bs ms os kept (piece ++ rest) ≡ text ++ future r.stream bs' ms' os' kept' (drop r.used piece ++ rest)
   pub exact : Untouched stream.port bs ms os r.stream.port bs' ms' os'
       ⊎ Records stream.port bs ms os stream.index (kind_of kept') (body_of kept') l (record { port = r.stream.port; length = r.length }) bs' ms' os' l'
-
-abbrev pub FeedsLent : Stream → Lent → Lent → Lent → Lent → Lent → Lent → Fed → Type 0
-FeedsLent stream bytes marks out kept piece line r =
-    Feeds stream (before bytes) (before marks) (before out) (before kept) (before piece) (before line)
-    r (after bytes) (after marks) (after out) (after kept) (after line)

@@ -1,7 +1,6 @@
 -- 'A trace' in whatever pieces it arrives: what a caller of `feed` and `finish` writes.
 use Rattle.std.specs.Prelude.{ℕ, ◌≤◌, ◌≡◌, List, [], ◌∷◌, ◌++◌, length, take, drop}
 use Rattle.rules.specs.Trace.{trace}
-use Rattle.rules.specs.Lent.{Lent, before, after}
 use Rattle.records.specs.lines.Puts.{Prints}
 use Rattle.trace.specs.declared.stream.Stream.{Stream}
 use Rattle.trace.specs.declared.stream.Fed.{Fed}
@@ -34,7 +33,3 @@ WritesTheWhole =
 pub record Passes (stream : Stream) (bs ms os kept piece : List ℕ) (r : Stream) (bs' ms' os' kept' : List ℕ) : Type 0 where
   pub text : List ℕ
   pub along : (rest : List ℕ) → future stream bs ms os kept (piece ++ rest) ≡ text ++ future r bs' ms' os' kept' rest
-
-abbrev pub PassesLent : Stream → Lent → Lent → Lent → Lent → Lent → Stream → Type 0
-PassesLent stream bytes marks out kept piece r =
-    Passes stream (before bytes) (before marks) (before out) (before kept) (before piece) r (after bytes) (after marks) (after out) (after kept)

@@ -1,0 +1,10 @@
+use Prim.Native.Nat.{◌-◌}
+use native.Mathlib.Omega.{arith}
+use Rattle.trace.proofs.Laws.{Loading, loading_begins, loading_next, loaded, loading_size}
+use Rattle.trace.proofs.load.Given as goal
+
+abbrev pub invariant-loop-at : goal.invariant-loop-at
+invariant-loop-at l = Loading l.initial.lent l.body l.k l.at l.lent
+
+abbrev pub decreases-loop-at : goal.decreases-loop-at
+decreases-loop-at l = l.k - l.at
