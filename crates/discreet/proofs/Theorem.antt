@@ -62,6 +62,8 @@ module _ (x : Settings) (one other : List Asked) where
   seen_alike : (z : Sizes) (s t : State) (cs bs : List Asked) → Each (MayDiffer x) cs bs → Each LentAlike cs bs
       → Each (Alike x one other) (run z s cs) (run z t bs) → EachCall (SeenAlike x one other) cs (seen_of cs (run z s cs)) (seen_of bs (run z t bs))
   seen_alike z s t [] [] none none none = no_call
+  seen_alike z s t [] (b ∷ bs) d _ _ = elim d [ ]
+  seen_alike z s t (a ∷ cs) [] d _ _ = elim d [ ]
   seen_alike z s t (a ∷ cs) (b ∷ bs) (more d ds) (more l e) (more h f) =
       a_call
       (record {

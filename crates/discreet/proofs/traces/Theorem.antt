@@ -67,6 +67,8 @@ calls_one x r t (RecordsDiffer.differ a b m n e u v p q) ds = calls_differ x (me
 
 calls_differing : (x : Settings) (rs ts : List Rec) → Each (RecordsDiffer x) rs ts → Each (MayDiffer x) (calls_of rs) (calls_of ts)
 calls_differing x [] [] none = none
+calls_differing x [] (t ∷ ts) d = elim d [ ]
+calls_differing x (r ∷ rs) [] d = elim d [ ]
 calls_differing x (r ∷ rs) (t ∷ ts) (more d ds) = calls_one x r t d (calls_differing x rs ts ds)
 
 ---- Two runs whose replies are alike print alike
@@ -129,6 +131,9 @@ module _ (x : Settings) (one other : List Asked) where
         → Each (Alike x one other) (run z s (calls_of rs)) (run z t (calls_of ts))
         → PrintedAlike x one other (trace_from z m i s (encoded_all rs ++ tail)) (trace_from z m i t (encoded_all ts ++ tail))
     printed m i s t [] [] tail none e h = alike_equal _ _ (ended m i s t tail e)
+    printed m i s t [] (v ∷ ts) tail d e h = elim d [ ]
+    printed zero i s t (r ∷ rs) [] tail d e h = elim d [ ]
+    printed (suc m) i s t (r ∷ rs) [] tail d e h = elim d [ ]
     printed zero i s t (r ∷ rs) (v ∷ ts) tail (more d ds) e h = ends
     printed (suc m) i s t (r ∷ rs) (v ∷ ts) tail (more d ds) e h =
         let n : Next s t (meant r) (meant v) (calls_of rs) (calls_of ts) = next s t r v (calls_of rs) (calls_of ts) d h in
