@@ -3,31 +3,27 @@
 
 #![tactic(auto)]
 
-ghost use Rattle.std.specs.Prelude.{◌≡◌, true};
+ghost use Rattle.std.specs.Prelude.{IfOk};
 ghost use Rattle.trace.specs.stream.Pieces.{Passes};
 
-use libc::{STDIN_FILENO, STDOUT_FILENO};
 use port::Port;
+use std::io;
+use std::io::Read;
+use std::process::ExitCode;
 use trace::stream;
 use trace::stream::Stream;
 
-// The stream after a piece, and whether every line was written.
-#[derive(Clone, Copy)]
-struct Passed {
-    stream: Stream,
-    written: bool,
-}
-
-// A piece of the input is fed, and each line written.
-fn pass(
+// A piece of the input is fed, and each line written: the stream after it.
+fn pass<R: Print>(
+    rt: &R,
     stream: Stream,
     bytes: &mut [u8],
     marks: &mut [u8],
     out: &mut [u8],
     kept: &mut [u8; Stream::KEPT],
     piece: &[u8],
-) -> Passed
-    ensures { result.written ≡ true → Passes stream bytes.old marks.old out.old kept.old piece.now result.stream bytes.new marks.new out.new kept.new }
+) -> io::Result<Stream>
+    ensures { IfOk result (λ r. Passes stream bytes.old marks.old out.old kept.old piece.now r bytes.new marks.new out.new kept.new) }
 {
     let mut line = [0u8; Stream::LINE];
     let mut next = stream;
@@ -35,62 +31,61 @@ fn pass(
     while at < piece.len() {
         let fed = stream::feed(next, bytes, marks, out, kept, &piece[at..], &mut line);
         let n = fed.length;
-        let is_written = io::write_all(STDOUT_FILENO, &line[..n]);
+        let written = rt.write_all(&line[..n]);
         next = fed.stream;
         at += fed.used;
-        if !is_written {
-            return Passed {
-                stream: next,
-                written: false,
-            };
-        }
+        written?;
     }
-    Passed {
-        stream: next,
-        written: true,
-    }
+    Ok(next)
 }
 
 // as many bytes as are asked for at once
 const BUFFER: usize = 65536;
 
+// What failed and why goes to standard error.
+fn failed<R: Eprint>(rt: &R, what: &str, error: io::Error) -> ExitCode {
+    match eprintln!(rt; "{what}: {error}") {
+        Ok(()) => ExitCode::FAILURE,
+        Err(_) => ExitCode::FAILURE,
+    }
+}
+
 // A proved loop has to end, and nothing says that the input does: the turns are counted down from a number that no run uses up.
-fn main() {
+fn main(rt: HostRuntime) -> ExitCode {
     let mut bytes = [0u8; Port::INPUT];
     let mut marks = [0u8; Port::INPUT];
     let mut out = [0u8; Port::OUTPUT];
     let mut kept = [0u8; Stream::KEPT];
     let mut buf = [0u8; BUFFER];
     let mut stream = Stream::start();
+    let mut input = rt.stdin();
     let mut turns = u64::MAX;
     while turns > 0 && !stream.done {
-        let got = libc::read(STDIN_FILENO, &mut buf);
-        if got < 0 {
-            os::fail(b"read");
-            return;
-        }
-        let n = io::count(got, &buf);
+        let n = match input.read(&mut buf) {
+            Ok(n) => n,
+            Err(e) => return failed(&rt, "read", e),
+        };
         if n == 0 {
             break;
         }
-        let passed = pass(
+        stream = match pass(
+            &rt,
             stream,
             &mut bytes,
             &mut marks,
             &mut out,
             &mut kept,
             &buf[..n],
-        );
-        if !passed.written {
-            os::fail(b"write");
-            return;
-        }
-        stream = passed.stream;
+        ) {
+            Ok(next) => next,
+            Err(e) => return failed(&rt, "write", e),
+        };
         turns -= 1;
     }
     let mut line = [0u8; Stream::LINE];
     let n = stream::finish(stream, &kept, &mut line);
-    if !io::write_all(STDOUT_FILENO, &line[..n]) {
-        os::fail(b"write");
+    match rt.write_all(&line[..n]) {
+        Ok(()) => ExitCode::SUCCESS,
+        Err(e) => failed(&rt, "write", e),
     }
 }
