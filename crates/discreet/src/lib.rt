@@ -2,4 +2,3 @@
 // program, stated in specs/traces and proved in proofs/traces. There is no code here.
 
 #![tactic(auto)]
-

@@ -21,7 +21,6 @@ use Rattle.port.specs.State.{capacity, place_bytes, place_marks, sizes, get}
 use Rattle.port.specs.Sending.{refused}
 use Rattle.port.specs.declared.Port.{Port}
 use Rattle.port.specs.declared.Answered.{Answered}
-use Rattle.port.specs.Layers.{state}
 use Rattle.port.proofs.Layers.{one_port}
 use Rattle.port.specs.following.Following.{Follows, grown, fewer, Goes}
 use Rattle.port.specs.Calls.{Leaves, Calls, Keeps, Asks, Now}

@@ -17,7 +17,7 @@ use Rattle.rules.specs.Editing.{Edit, erase, word_erase, kill, reprint, joined, 
 use Rattle.rules.specs.Echo.{shown, edit_echo}
 use Rattle.rules.specs.Fit.{unit_fits, end_fits, kept_in, kept, ended, overflow_on, unit_on, stores_unit, end_on, stores_end}
 use Rattle.rules.specs.Received.{Meaning, literal_next, signals, stops, starts, drops, edits, ends, marks, stores, step1, step2, step3, step8}
-use Rattle.rules.specs.Received.{step9, mapped, flushed_unless, edit_on, carry, good, silently, break_on, broken_on, parity_on, hung_up, hangup_on}
+use Rattle.rules.specs.Received.{step9, mapped, flushed_unless, edit_on, carry, good, silently, break_on, broken_on, parity_on, hangup_on}
 use Rattle.rules.specs.Received.{event, received_on}
 use Rattle.rules.specs.Reads.{Part, first_line, part_of, finish, is_empty, done_on, ruled_on, clashes, read_on}
 use Rattle.rules.specs.Verdicts.{too_large, foreground_on, judged_on, read_verdict, write_verdict, settings_verdict}

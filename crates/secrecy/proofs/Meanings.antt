@@ -10,7 +10,6 @@ use borrow.Author.Tests.{eqb-true}
 use Rattle.secrecy.specs.Types.{Settings}
 use Rattle.rules.specs.Settings.{elem, enabled, is, enabled_of, characters}
 use Rattle.rules.specs.Echo.{stored_echo}
-use Rattle.rules.specs.Editing.{erase, kill, reprint}
 use Rattle.rules.specs.Received.{Meaning, ends, stores, doubled, plainly, step9, step8, mapped, step7, step4, step3}
 use Rattle.rules.proofs.Truth.{either, or_false}
 use Rattle.secrecy.specs.Statement.{reserved}

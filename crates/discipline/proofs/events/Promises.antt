@@ -16,7 +16,6 @@ use lib.Dec.{eqb}
 use Rattle.rules.specs.Sizes.{State}
 use Rattle.rules.specs.Flushing as flushing
 use Rattle.port.specs.Sending.{refused}
-use Rattle.port.specs.Layers.{state}
 use Rattle.port.specs.following.Following.{Goes}
 
 module _ (p : Port) (bs ms os : List ℕ) where

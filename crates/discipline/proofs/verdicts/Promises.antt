@@ -9,7 +9,6 @@ use Rattle.rules.specs.Verdicts as verdict
 use Rattle.port.specs.State.{sizes, get}
 use Rattle.port.specs.declared.Port.{Port}
 use Rattle.port.specs.declared.Answered.{Answered}
-use Rattle.port.specs.Layers.{state}
 use Rattle.port.specs.Calls.{step_of, grouped, Now, unchanged}
 use lib.Dec.{eqb}
 use Rattle.rules.specs.declared.Process.{Process}

@@ -5,7 +5,7 @@ use native.Mathlib.Nat.{le_antisymm}
 use mathlib.Core.Logic.{inl, inr}
 use mathlib.Core.Bool.{true, false}
 use native.Mathlib.Omega.{arith}
-use Rattle.editing.proofs.Laws.{Seeking, seek_begin, seek_next, seek_end, asked_start}
+use Rattle.editing.proofs.Laws.{seek_begin, seek_next, seek_end, asked_start}
 use Rattle.editing.proofs.unit_start.Goals as goal
 
 pub overflow_sub-at : goal.overflow_sub-at

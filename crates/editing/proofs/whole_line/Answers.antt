@@ -1,11 +1,8 @@
 -- `editing::whole_line` meets its contract. Assumes nothing.
-use lib.ListN.{length}
-use Prim.Native.Nat.{ℕ}
-use mathlib.Core.List.{List}
 use mathlib.Core.Bool.{true}
-use mathlib.Core.Path.{◌≡◌, refl}
+use mathlib.Core.Path.{refl}
 use native.Mathlib.Omega.{arith}
-use Rattle.editing.proofs.Laws.{Walked, walk_begin, walk_next, whole_of}
+use Rattle.editing.proofs.Laws.{walk_begin, walk_next, whole_of}
 use Rattle.editing.proofs.whole_line.Goals as goal
 
 pub loop-begin-init : goal.loop-begin-init

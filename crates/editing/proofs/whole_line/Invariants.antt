@@ -2,9 +2,8 @@ use lib.ListN.{length}
 use Prim.Native.Nat.{ℕ}
 use mathlib.Core.List.{List}
 use mathlib.Core.Bool.{true}
-use mathlib.Core.Path.{◌≡◌, refl}
-use native.Mathlib.Omega.{arith}
-use Rattle.editing.proofs.Laws.{Walked, walk_begin, walk_next, whole_of}
+use mathlib.Core.Path.{◌≡◌}
+use Rattle.editing.proofs.Laws.{Walked}
 use Rattle.editing.proofs.whole_line.Given as goal
 
 abbrev pub invariant-loop-begin : goal.invariant-loop-begin

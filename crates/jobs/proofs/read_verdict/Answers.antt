@@ -12,8 +12,8 @@ pub returns-then-deaf : goal.returns-then-deaf
 returns-then-deaf c =
     let bound : free c.args.foreground c.args.who ≡ false = sym c.free.ensures ∙ c.if-free.false in
     elim c.then-deaf.branch [
-      then-deaf-via-then-deaf w ↦ simp (bound, sym c.deaf.ensures ∙ w.if-deaf.true)
-    | then-deaf-via-else-deaf+then-who w ↦ simp (bound, sym c.deaf.ensures ∙ w.if-deaf.false, w.if-who.true)
+      | then-deaf-via-then-deaf w ↦ simp (bound, sym c.deaf.ensures ∙ w.if-deaf.true)
+      | then-deaf-via-else-deaf+then-who w ↦ simp (bound, sym c.deaf.ensures ∙ w.if-deaf.false, w.if-who.true)
     ]
 
 pub returns : goal.returns

@@ -3,12 +3,12 @@ use Rattle.rules.specs.Sizes.{Output as Ruled}
 use native.Mathlib.Nat.{le_antisymm}
 use Rattle.output.proofs.columns.Columns.{replicate_snoc}
 use Rattle.output.proofs.Laws.{range_len, range_get, start_run, same_size, len_now, twice, via_range}
-use Rattle.output.specs.Contract.{get, OutputBecomes}
+use Rattle.output.specs.Contract.{get}
 use Rattle.rules.specs.Output.{queued}
 use mathlib.Core.List.{[], ◌∷◌}
 use lib.ListN.{length, replicate, length-replicate}
 use native.Mathlib.Omega.{arith}
-use Prim.Native.Nat.{ℕ, ◌+◌, ◌-◌, ◌≤◌, min}
+use Prim.Native.Nat.{ℕ, ◌+◌, min}
 use mathlib.Core.Path.{◌≡◌}
 use Rattle.output.proofs.put_spaces.Goals as goal
 

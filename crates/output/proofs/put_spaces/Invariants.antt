@@ -1,14 +1,7 @@
-use Rattle.rules.specs.Sizes.{Output as Ruled}
-use native.Mathlib.Nat.{le_antisymm}
-use Rattle.output.proofs.columns.Columns.{replicate_snoc}
-use Rattle.output.proofs.Laws.{range_len, range_get, start_run, same_size, len_now, twice, via_range}
 use Rattle.output.specs.Contract.{get, OutputBecomes}
 use Rattle.rules.specs.Output.{queued}
-use mathlib.Core.List.{[], ◌∷◌}
-use lib.ListN.{length, replicate, length-replicate}
-use native.Mathlib.Omega.{arith}
-use Prim.Native.Nat.{ℕ, ◌+◌, ◌-◌, ◌≤◌, min}
-use mathlib.Core.Path.{◌≡◌}
+use lib.ListN.{replicate}
+use Prim.Native.Nat.{◌-◌, ◌≤◌}
 use Rattle.output.proofs.put_spaces.Given as goal
 
 abbrev pub invariant-loop-k : goal.invariant-loop-k

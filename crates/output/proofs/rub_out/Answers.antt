@@ -8,7 +8,7 @@ use lib.ListN.{length}
 use Rattle.output.specs.Contract.{get, OutputBecomes}
 use mathlib.Core.List.{[], ◌∷◌}
 use native.Mathlib.Omega.{arith}
-use Prim.Native.Nat.{◌+◌, ◌-◌, ◌*◌, ◌≤◌, min}
+use Prim.Native.Nat.{◌+◌, ◌*◌, min}
 use mathlib.Core.Path.{◌≡◌}
 use Rattle.output.proofs.rub_out.Goals as goal
 

@@ -1,14 +1,8 @@
-use native.Mathlib.Nat.{le_antisymm}
 use Rattle.rules.specs.Echo.{rubout}
-use Rattle.output.proofs.Run.{rubout_plain, rubout_snoc, rubout_length}
-use Rattle.output.proofs.Laws.{range_len, range_get, start_run, same_size, len_now, twice, fits_of, full_of}
 use Rattle.rules.specs.Output.{queued}
 use lib.ListN.{length}
 use Rattle.output.specs.Contract.{get, OutputBecomes}
-use mathlib.Core.List.{[], ◌∷◌}
-use native.Mathlib.Omega.{arith}
-use Prim.Native.Nat.{◌+◌, ◌-◌, ◌*◌, ◌≤◌, min}
-use mathlib.Core.Path.{◌≡◌}
+use Prim.Native.Nat.{◌+◌, ◌-◌, ◌*◌, ◌≤◌}
 use Rattle.output.proofs.rub_out.Given as goal
 
 abbrev pub invariant-loop-k : goal.invariant-loop-k

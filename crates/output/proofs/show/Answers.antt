@@ -3,9 +3,8 @@ use lib.ListN.{take, length}
 use Rattle.rules.specs.Output.{written}
 use Rattle.output.specs.Contract.{get, takes}
 use Rattle.output.proofs.Laws.{same_size}
-use Rattle.output.proofs.Run.{Measuring, measuring_next, shows, shows_nothing}
+use Rattle.output.proofs.Run.{measuring_next, shows, shows_nothing}
 use native.Mathlib.Omega.{arith}
-use Prim.Native.Nat.{◌-◌}
 use Rattle.output.proofs.show.Goals as goal
 
 pub loop-k-init : goal.loop-k-init

@@ -1,9 +1,5 @@
-use lib.ListN.{take, length}
-use Rattle.rules.specs.Output.{written}
-use Rattle.output.specs.Contract.{get, takes}
-use Rattle.output.proofs.Laws.{same_size}
-use Rattle.output.proofs.Run.{Measuring, measuring_next, shows, shows_nothing}
-use native.Mathlib.Omega.{arith}
+use lib.ListN.{length}
+use Rattle.output.proofs.Run.{Measuring}
 use Prim.Native.Nat.{◌-◌}
 use Rattle.output.proofs.show.Given as goal
 

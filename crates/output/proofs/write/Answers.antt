@@ -1,12 +1,11 @@
 -- `output::write` meets its contract. Assumes nothing.
-use Rattle.output.proofs.Run.{SoFar, start, next, full, done, wrote}
+use Rattle.output.proofs.Run.{start, next, full, done, wrote}
 use Rattle.output.proofs.Laws.{same_size}
 use Rattle.rules.specs.Output.{written}
 use lib.ListN.{length, take}
-use Rattle.output.specs.Contract.{get, put}
+use Rattle.output.specs.Contract.{get}
 use Rattle.output.specs.expansion.Contract.{expanded_bytes}
 use native.Mathlib.Omega.{arith}
-use Prim.Native.Nat.{◌-◌}
 use mathlib.Core.Path.{◌≡◌}
 use Rattle.output.proofs.write.Goals as goal
 

@@ -1,8 +1,6 @@
 -- `records::in_places` meets its contract: below place k the copy has the values. Assumes nothing.
-use Prim.Native.Nat.{ℕ, ◌≤◌, ◌<◌, ◌-◌}
-use mathlib.Core.Path.{◌≡◌}
 use native.Mathlib.Omega.{arith}
-use lib.ListN.{length, get_or, length-set}
+use lib.ListN.{length-set}
 use Rattle.records.proofs.Places.{copied_next}
 use Rattle.records.proofs.in_places.Goals as goal
 

@@ -1,8 +1,6 @@
 use Prim.Native.Nat.{ℕ, ◌≤◌, ◌<◌, ◌-◌}
 use mathlib.Core.Path.{◌≡◌}
-use native.Mathlib.Omega.{arith}
-use lib.ListN.{length, get_or, length-set}
-use Rattle.records.proofs.Places.{copied_next}
+use lib.ListN.{length, get_or}
 use Rattle.records.proofs.in_places.Given as goal
 
 abbrev pub invariant-loop-k : goal.invariant-loop-k

@@ -1,9 +1,6 @@
 -- `settings::has` meets its contract: the verdict on all characters is that on those from place k on. Assumes nothing.
-use Prim.Native.Nat.{◌≤◌, ◌-◌}
-use mathlib.Core.Path.{◌≡◌, refl, sym, ◌∙◌}
+use mathlib.Core.Path.{refl, sym, ◌∙◌}
 use native.Mathlib.Omega.{arith}
-use lib.ListN.{length, drop}
-use Rattle.rules.specs.Settings.{elem, enabled_of}
 use Rattle.settings.proofs.Pairs.{elem_next, elem_end}
 use Rattle.settings.proofs.has.Goals as goal
 

@@ -1,9 +1,7 @@
 use Prim.Native.Nat.{◌≤◌, ◌-◌}
-use mathlib.Core.Path.{◌≡◌, refl, sym, ◌∙◌}
-use native.Mathlib.Omega.{arith}
+use mathlib.Core.Path.{◌≡◌}
 use lib.ListN.{length, drop}
 use Rattle.rules.specs.Settings.{elem, enabled_of}
-use Rattle.settings.proofs.Pairs.{elem_next, elem_end}
 use Rattle.settings.proofs.has.Given as goal
 
 abbrev pub invariant-loop-k : goal.invariant-loop-k

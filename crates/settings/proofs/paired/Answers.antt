@@ -1,11 +1,9 @@
 -- `settings::paired` meets its contract: while no pair is found, the verdict on all characters is that on those from place `at` on;
 -- within a turn, b is among those from place `at` + 1 on exactly if it is among those from place k on. Assumes nothing.
-use Prim.Native.Nat.{◌+◌, ◌≤◌, ◌-◌}
-use mathlib.Core.Path.{◌≡◌, refl, ap, sym, ◌∙◌}
-use mathlib.Core.Bool.{false, not}
+use mathlib.Core.Path.{refl, ap, sym, ◌∙◌}
+use mathlib.Core.Bool.{not}
 use native.Mathlib.Omega.{arith}
-use lib.ListN.{length, get_or, drop}
-use Rattle.rules.specs.Settings.{elem, enabled_of, distinct}
+use lib.ListN.{get_or}
 use Rattle.settings.proofs.Pairs.{elem_next, distinct_next, elem_end, distinct_end}
 use Rattle.settings.proofs.paired.Goals as goal
 

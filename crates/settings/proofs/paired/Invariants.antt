@@ -1,10 +1,8 @@
 use Prim.Native.Nat.{◌+◌, ◌≤◌, ◌-◌}
-use mathlib.Core.Path.{◌≡◌, refl, ap, sym, ◌∙◌}
-use mathlib.Core.Bool.{false, not}
-use native.Mathlib.Omega.{arith}
-use lib.ListN.{length, get_or, drop}
+use mathlib.Core.Path.{◌≡◌}
+use mathlib.Core.Bool.{false}
+use lib.ListN.{length, drop}
 use Rattle.rules.specs.Settings.{elem, enabled_of, distinct}
-use Rattle.settings.proofs.Pairs.{elem_next, distinct_next, elem_end, distinct_end}
 use Rattle.settings.proofs.paired.Given as goal
 
 abbrev pub invariant-loop-k : goal.invariant-loop-k

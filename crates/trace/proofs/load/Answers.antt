@@ -1,7 +1,6 @@
 -- `trace::load` meets its contract. Assumes nothing.
-use Prim.Native.Nat.{◌-◌}
 use native.Mathlib.Omega.{arith}
-use Rattle.trace.proofs.Laws.{Loading, loading_begins, loading_next, loaded, loading_size}
+use Rattle.trace.proofs.Laws.{loading_begins, loading_next, loaded, loading_size}
 use Rattle.trace.proofs.load.Goals as goal
 
 pub loop-at-init : goal.loop-at-init

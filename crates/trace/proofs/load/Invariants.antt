@@ -1,6 +1,5 @@
 use Prim.Native.Nat.{◌-◌}
-use native.Mathlib.Omega.{arith}
-use Rattle.trace.proofs.Laws.{Loading, loading_begins, loading_next, loaded, loading_size}
+use Rattle.trace.proofs.Laws.{Loading}
 use Rattle.trace.proofs.load.Given as goal
 
 abbrev pub invariant-loop-at : goal.invariant-loop-at

@@ -8,7 +8,6 @@ use lib.ListN.{length, take, drop, length-drop}
 use lib.Seq.{take_all, take_at, drop-drop, drop-length}
 use lib.Dec.{leb}
 use Rattle.rules.specs.Sizes.{Sizes, State, base}
-use Rattle.rules.specs.Settings.{fresh}
 use Rattle.rules.specs.Trace.{cut_line, full_line, trace_from, trace}
 use Rattle.port.specs.State.{sizes, get}
 use Rattle.port.specs.Sending as port

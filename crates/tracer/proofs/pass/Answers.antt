@@ -1,5 +1,5 @@
 -- `tracer::pass` meets its contract: each turn feeds what is left of the piece. Assumes nothing.
-use Rattle.std.proofs.Common.{◌∙◌, arith}
+use Rattle.std.proofs.Common.{◌∙◌}
 use Rattle.trace.proofs.stream.Pieces.{passing_next, passing_done}
 use Rattle.tracer.proofs.pass.Goals as goal
 

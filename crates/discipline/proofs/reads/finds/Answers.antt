@@ -1,6 +1,5 @@
 -- `discipline::reads::finds` meets its contract. Assumes nothing.
 use mathlib.Core.Path.{sym, ◌∙◌}
-use Rattle.rules.specs.Reads.{enough, expired}
 use Rattle.discipline.proofs.reads.finds.Goals as goal
 
 pub returns-then-x : goal.returns-then-x

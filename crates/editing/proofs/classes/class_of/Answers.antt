@@ -1,5 +1,5 @@
 -- `editing::classes::class_of` meets its contract: an entry stands for its class. Assumes nothing.
-use mathlib.Core.Path.{◌≡◌, ap, sym, ◌∙◌}
+use mathlib.Core.Path.{ap, sym, ◌∙◌}
 use borrow.Author.Rules.{rules}
 use Rattle.rules.specs.Classes.{class_of}
 use Rattle.editing.proofs.classes.Rule.{named, named_entry, named_rest}

@@ -1,7 +1,6 @@
 -- `editing::reprinting::fits` meets its contract. Assumes nothing.
-use Prim.Native.Nat.{◌-◌}
 use native.Mathlib.Omega.{arith}
-use Rattle.editing.proofs.reprinting.Laws.{Measuring, measuring_none, measuring_next, measured_all}
+use Rattle.editing.proofs.reprinting.Laws.{measuring_none, measuring_next, measured_all}
 use Rattle.editing.proofs.reprinting.fits.Goals as goal
 
 pub loop-k-init : goal.loop-k-init

@@ -1,6 +1,5 @@
 use Prim.Native.Nat.{◌-◌}
-use native.Mathlib.Omega.{arith}
-use Rattle.editing.proofs.reprinting.Laws.{Measuring, measuring_none, measuring_next, measured_all}
+use Rattle.editing.proofs.reprinting.Laws.{Measuring}
 use Rattle.editing.proofs.reprinting.fits.Given as goal
 
 abbrev pub invariant-loop-k : goal.invariant-loop-k

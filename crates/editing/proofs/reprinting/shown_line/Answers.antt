@@ -1,7 +1,6 @@
 -- `editing::reprinting::shown_line` meets its contract. Assumes nothing.
-use Prim.Native.Nat.{◌-◌}
 use native.Mathlib.Omega.{arith}
-use Rattle.editing.proofs.reprinting.Laws.{Showing, showing_none, showing_next, shown_size, shown_all}
+use Rattle.editing.proofs.reprinting.Laws.{showing_none, showing_next, shown_size, shown_all}
 use Rattle.editing.proofs.reprinting.shown_line.Goals as goal
 
 pub loop-k-init : goal.loop-k-init

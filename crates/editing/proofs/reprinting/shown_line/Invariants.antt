@@ -1,6 +1,5 @@
 use Prim.Native.Nat.{◌-◌}
-use native.Mathlib.Omega.{arith}
-use Rattle.editing.proofs.reprinting.Laws.{Showing, showing_none, showing_next, shown_size, shown_all}
+use Rattle.editing.proofs.reprinting.Laws.{Showing}
 use Rattle.editing.proofs.reprinting.shown_line.Given as goal
 
 abbrev pub invariant-loop-k : goal.invariant-loop-k

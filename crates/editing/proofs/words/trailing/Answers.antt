@@ -2,7 +2,7 @@
 use mathlib.Core.Path.{sym, ◌∙◌}
 use Rattle.editing.specs.words.Contract.{test_of}
 use native.Mathlib.Omega.{arith}
-use Rattle.editing.proofs.Laws.{Walked, walk_begin, walk_next, walk_fails, walk_end, within_both, line_back}
+use Rattle.editing.proofs.Laws.{walk_begin, walk_next, walk_fails, walk_end, within_both, line_back}
 use Rattle.editing.proofs.words.trailing.Goals as goal
 
 pub loop-from-init : goal.loop-from-init

@@ -1,8 +1,5 @@
-use borrow.Author.Tests.{not-true, not-false}
-use mathlib.Core.Path.{sym, ◌∙◌}
 use Rattle.editing.specs.words.Contract.{test_of}
-use native.Mathlib.Omega.{arith}
-use Rattle.editing.proofs.Laws.{Walked, walk_begin, walk_next, walk_fails, walk_end, within_both, line_back}
+use Rattle.editing.proofs.Laws.{Walked}
 use Rattle.editing.proofs.words.trailing.Given as goal
 
 abbrev pub invariant-loop-from : goal.invariant-loop-from

@@ -1,7 +1,6 @@
 -- `input::canonical::one_line` meets its contract. Assumes nothing.
-use Prim.Native.Nat.{◌-◌}
 use native.Mathlib.Omega.{arith}
-use Rattle.input.proofs.canonical.GoesOn.{Lined, line_begin, line_next, line_end}
+use Rattle.input.proofs.canonical.GoesOn.{line_begin, line_next, line_end}
 use Rattle.input.proofs.canonical.one_line.Goals as goal
 
 pub loop-k-init : goal.loop-k-init

@@ -1,6 +1,5 @@
 use Prim.Native.Nat.{◌-◌}
-use native.Mathlib.Omega.{arith}
-use Rattle.input.proofs.canonical.GoesOn.{Lined, line_begin, line_next, line_end}
+use Rattle.input.proofs.canonical.GoesOn.{Lined}
 use Rattle.input.proofs.canonical.one_line.Given as goal
 
 abbrev pub invariant-loop-k : goal.invariant-loop-k

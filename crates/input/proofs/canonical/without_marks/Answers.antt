@@ -1,8 +1,7 @@
 -- `input::canonical::without_marks` meets its contract. Assumes nothing.
 use mathlib.Core.Path.{◌∙◌}
 use native.Mathlib.Omega.{arith}
-use Prim.Native.Nat.{◌-◌}
-use Rattle.input.proofs.canonical.GoesOff.{Keeps, keeps_begin, keeps_skip, keeps_more, keeps_end}
+use Rattle.input.proofs.canonical.GoesOff.{keeps_begin, keeps_skip, keeps_more, keeps_end}
 use Rattle.input.proofs.canonical.without_marks.Goals as goal
 use Rattle.input.proofs.canonical.without_marks.Goals.{then-not-is_mark, else-not-is_mark}
 
@@ -31,11 +30,11 @@ loop-k-preserved c =
     let m = c.at-m in
     let mark = c.is_mark in
     elim c.if-not-is_mark.branch [
-      then-not-is_mark w ↦ rw w.kept-is
+      | then-not-is_mark w ↦ rw w.kept-is
           (keeps_more c.args.i bs ms c.requires loop.k loop.kept loop.bytes loop.marks loop.invariant lt
           m.result w.at-b.result mark.result c.if-not-is_mark.bytes c.if-not-is_mark.marks m.ensures mark.ensures
           w.if-not-is_mark.true w.at-b.ensures (w.bytes-is ∙ w.change.ensures) (w.marks-is ∙ w.change-then-not-is_mark.ensures))
-    | else-not-is_mark w ↦ rw (w.bytes-is, w.marks-is, w.kept-is)
+      | else-not-is_mark w ↦ rw (w.bytes-is, w.marks-is, w.kept-is)
           (keeps_skip c.args.i bs ms c.requires loop.k loop.kept loop.bytes loop.marks loop.invariant lt
           m.result mark.result m.ensures mark.ensures w.if-not-is_mark.false)
     ]

@@ -1,9 +1,5 @@
-use mathlib.Core.Path.{◌∙◌}
-use native.Mathlib.Omega.{arith}
 use Prim.Native.Nat.{◌-◌}
-use mathlib.Core.Logic.{⊎_elim}
-use borrow.Author.Tests.{not-true, not-false}
-use Rattle.input.proofs.canonical.GoesOff.{Keeps, keeps_begin, keeps_skip, keeps_more, keeps_end}
+use Rattle.input.proofs.canonical.GoesOff.{Keeps}
 use Rattle.input.proofs.canonical.without_marks.Given as goal
 
 abbrev pub invariant-loop-k : goal.invariant-loop-k

@@ -1,8 +1,8 @@
 -- `input::reading::first_line` meets its contract. Assumes nothing.
-use Prim.Native.Nat.{◌≤◌, ◌<◌, ◌-◌, min}
+use Prim.Native.Nat.{◌≤◌, ◌<◌, min}
 use native.Mathlib.Omega.{arith}
 use Rattle.queue.specs.Queue.{held}
-use Rattle.input.proofs.reading.FirstLine.{Plain, plain_none, plain_next, line_at_mark, line_at_end, line_at_stop, line_at_last}
+use Rattle.input.proofs.reading.FirstLine.{plain_none, plain_next, line_at_mark, line_at_end, line_at_stop, line_at_last}
 use Rattle.input.proofs.reading.first_line.Goals as goal
 
 pub loop-k-init : goal.loop-k-init

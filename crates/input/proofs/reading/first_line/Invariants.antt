@@ -1,7 +1,6 @@
-use Prim.Native.Nat.{◌≤◌, ◌<◌, ◌-◌, min}
-use native.Mathlib.Omega.{arith}
+use Prim.Native.Nat.{◌≤◌, ◌-◌}
 use Rattle.queue.specs.Queue.{held}
-use Rattle.input.proofs.reading.FirstLine.{Plain, plain_none, plain_next, line_at_mark, line_at_end, line_at_stop, line_at_last}
+use Rattle.input.proofs.reading.FirstLine.{Plain}
 use Rattle.input.proofs.reading.first_line.Given as goal
 
 abbrev pub invariant-loop-k : goal.invariant-loop-k

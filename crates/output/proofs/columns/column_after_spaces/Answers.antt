@@ -3,7 +3,7 @@ use Rattle.output.proofs.columns.Columns.{spaces_next}
 use lib.ListN.{replicate}
 use native.Mathlib.Omega.{arith}
 use native.Mathlib.Nat.{le_antisymm}
-use Prim.Native.Nat.{ℕ, ◌≤◌, ◌-◌}
+use Prim.Native.Nat.{ℕ}
 use Rattle.rules.specs.Output.{columns_after}
 use mathlib.Core.Path.{◌≡◌, refl, ap, ◌∙◌}
 use Rattle.output.proofs.columns.column_after_spaces.Goals as goal
@@ -19,8 +19,7 @@ loop-k-smaller c = omega arith
 
 pub loop-k-preserved : goal.loop-k-preserved
 loop-k-preserved c =
-    let at-loop = c.loop-k in
-    (
+    let at-loop = c.loop-k in (
       omega arith,
       spaces_next c.args.x c.args.c at-loop.k at-loop.column c.next_column-column.result at-loop.invariant.1
           c.next_column-column.ensures,

@@ -1,10 +1,7 @@
-use Rattle.output.proofs.columns.Columns.{spaces_next}
 use lib.ListN.{replicate}
-use native.Mathlib.Omega.{arith}
-use native.Mathlib.Nat.{le_antisymm}
-use Prim.Native.Nat.{ℕ, ◌≤◌, ◌-◌}
+use Prim.Native.Nat.{◌≤◌, ◌-◌}
 use Rattle.rules.specs.Output.{columns_after}
-use mathlib.Core.Path.{◌≡◌, refl, ap, ◌∙◌}
+use mathlib.Core.Path.{◌≡◌}
 use Rattle.output.proofs.columns.column_after_spaces.Given as goal
 
 abbrev pub invariant-loop-k : goal.invariant-loop-k

@@ -1,11 +1,6 @@
 -- `queue::Queue::drop_oldest` meets its contract. Assumes nothing.
-use mathlib.Core.Logic.{⊎_elim}
-use Rattle.queue.proofs.Rings.{lt_or_le}
-use Rattle.queue.proofs.Laws.{fit_len, fit_lt, drop_oldest_of}
+use Rattle.queue.proofs.Laws.{drop_oldest_of}
 use lib.ListN.{length}
-use mathlib.Core.Path.{◌≡◌}
-use Prim.Native.Nat.{ℕ, ◌<◌, ◌≤◌, min}
-use native.Mathlib.Omega.{arith}
 use Rattle.queue.proofs.Queue.drop_oldest.Goals as goal
 
 pub returns : goal.returns

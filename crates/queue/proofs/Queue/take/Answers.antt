@@ -1,8 +1,6 @@
 -- `queue::Queue::take` meets its contract: after k turns the first k bytes held stand in dst. Assumes nothing.
-use Prim.Native.Nat.{◌-◌}
 use native.Mathlib.Omega.{arith}
-use Rattle.queue.specs.Queue.{held}
-use Rattle.queue.proofs.Taking.{Copied, as_wide, copy_begin, copy_next, taken}
+use Rattle.queue.proofs.Taking.{as_wide, copy_begin, copy_next, taken}
 use Rattle.queue.proofs.Queue.take.Goals as goal
 
 pub loop-k-init : goal.loop-k-init

@@ -1,7 +1,6 @@
 use Prim.Native.Nat.{◌-◌}
-use native.Mathlib.Omega.{arith}
 use Rattle.queue.specs.Queue.{held}
-use Rattle.queue.proofs.Taking.{Copied, as_wide, copy_begin, copy_next, taken}
+use Rattle.queue.proofs.Taking.{Copied}
 use Rattle.queue.proofs.Queue.take.Given as goal
 
 abbrev pub invariant-loop-k : goal.invariant-loop-k

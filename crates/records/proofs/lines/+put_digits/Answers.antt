@@ -10,8 +10,8 @@ returns t c =
     let some = c.if-most-eq0.false in
     let last = same_text (ap (λ d. d ∷ []) c.digit.ensures) c.put_byte.ensures in
     elim c.if-n-ge10.branch [
-      then-n-ge10 w ↦ same_text (sym (digits_more a.most a.n some w.if-n-ge10.true))
+      | then-n-ge10 w ↦ same_text (sym (digits_more a.most a.n some w.if-n-ge10.true))
           (then (same_end w.place-is w.line-is w.put_digits-place.ensures) last)
-    | else-n-ge10 w ↦ same_text (sym (digits_one a.most a.n some w.if-n-ge10.false))
+      | else-n-ge10 w ↦ same_text (sym (digits_one a.most a.n some w.if-n-ge10.false))
           (then (same_end w.place-is w.line-is (nothing a.line.now a.at)) last)
     ]

@@ -1,11 +1,10 @@
 -- `records::lines::put_hex` meets its contract: the first k bytes are laid as two digits each; no byte is a dash. Assumes nothing.
 use lib.Seq.{take_all}
-use Prim.Native.Nat.{ℕ, ◌-◌, ◌≤◌}
+use Prim.Native.Nat.{ℕ}
 use mathlib.Core.Path.{◌≡◌, ap, sym, ◌∙◌}
 use mathlib.Core.List.{[], ◌∷◌}
 use native.Mathlib.Omega.{arith}
-use lib.ListN.{length, take}
-use Rattle.records.specs.lines.Puts.{Puts}
+use lib.ListN.{length}
 use Rattle.records.proofs.lines.Texts.{nothing, kept, same_text}
 use Rattle.records.proofs.lines.Hex.{hex_next, hex_none, hex_some}
 use Rattle.rules.specs.Trace.{hex}
@@ -34,13 +33,12 @@ pub loop-k-smaller : goal.loop-k-smaller
 loop-k-smaller c = omega arith
 
 pub loop-k-preserved : goal.loop-k-preserved
-loop-k-preserved c =
-    (
-      omega arith,
-      hex_next c.args.bytes.now c.loop-k.k (omega arith) c.loop-k.invariant.1
-          (same_text (ap (λ (d : ℕ). d ∷ []) c.hex_digit.ensures) c.put_byte-place.ensures)
-          (same_text (ap (λ (d : ℕ). d ∷ []) c.hex_digit-in-loop-k.ensures) c.put_byte-place-in-loop-k.ensures),
-    )
+loop-k-preserved c = (
+  omega arith,
+  hex_next c.args.bytes.now c.loop-k.k (omega arith) c.loop-k.invariant.1
+      (same_text (ap (λ (d : ℕ). d ∷ []) c.hex_digit.ensures) c.put_byte-place.ensures)
+      (same_text (ap (λ (d : ℕ). d ∷ []) c.hex_digit-in-loop-k.ensures) c.put_byte-place-in-loop-k.ensures),
+)
 
 pub shape_of-line : goal.shape_of-line
 shape_of-line c = kept c.loop-k.invariant.1

@@ -1,12 +1,6 @@
-use lib.Seq.{take_all}
-use Prim.Native.Nat.{ℕ, ◌-◌, ◌≤◌}
-use mathlib.Core.Path.{◌≡◌, ap, sym, ◌∙◌}
-use mathlib.Core.List.{[], ◌∷◌}
-use native.Mathlib.Omega.{arith}
+use Prim.Native.Nat.{◌-◌, ◌≤◌}
 use lib.ListN.{length, take}
 use Rattle.records.specs.lines.Puts.{Puts}
-use Rattle.records.proofs.lines.Texts.{nothing, kept, same_text}
-use Rattle.records.proofs.lines.Hex.{hex_next, hex_none, hex_some}
 use Rattle.rules.specs.Trace.{hex}
 use Rattle.records.proofs.lines.put_hex.Given as goal
 

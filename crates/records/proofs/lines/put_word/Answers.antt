@@ -1,9 +1,6 @@
 -- `records::lines::put_word` meets its contract: the first k bytes of the word are laid. Assumes nothing.
 use lib.Seq.{take_all}
-use Prim.Native.Nat.{◌-◌, ◌≤◌}
 use native.Mathlib.Omega.{arith}
-use lib.ListN.{length, take}
-use Rattle.records.specs.lines.Puts.{Puts}
 use Rattle.records.proofs.lines.Texts.{nothing, word_next, kept, same_text}
 use Rattle.records.proofs.lines.put_word.Goals as goal
 

@@ -1,8 +1,6 @@
 -- `trace::gathering::gather` meets its contract. Assumes nothing.
 use mathlib.Core.Path.{refl, sym, ◌∙◌}
-use Rattle.trace.proofs.gathering.Laws.{Gathering, gathering_begins, gathering_next, gathered_all, gathered_some}
-use lib.ListN.{length}
-use Prim.Native.Nat.{◌-◌}
+use Rattle.trace.proofs.gathering.Laws.{gathering_begins, gathering_next, gathered_all, gathered_some}
 use native.Mathlib.Omega.{arith}
 use Rattle.trace.proofs.gathering.gather.Goals as goal
 

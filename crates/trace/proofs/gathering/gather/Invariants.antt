@@ -1,8 +1,6 @@
-use mathlib.Core.Path.{refl, sym, ◌∙◌}
-use Rattle.trace.proofs.gathering.Laws.{Gathering, gathering_begins, gathering_next, gathered_all, gathered_some}
+use Rattle.trace.proofs.gathering.Laws.{Gathering}
 use lib.ListN.{length}
 use Prim.Native.Nat.{◌-◌}
-use native.Mathlib.Omega.{arith}
 use Rattle.trace.proofs.gathering.gather.Given as goal
 
 abbrev pub invariant-loop-at : goal.invariant-loop-at

@@ -1,8 +1,6 @@
 -- `trace::stream::whole` meets its contract. Assumes nothing.
-use Rattle.trace.proofs.stream.WholeInput.{Running, running_begins, running_room, running_next, running_done, printed_long}
-use lib.ListN.{length}
+use Rattle.trace.proofs.stream.WholeInput.{running_begins, running_room, running_next, running_done, printed_long}
 use mathlib.Core.Path.{refl, sym}
-use Prim.Native.Nat.{◌-◌}
 use native.Mathlib.Omega.{arith}
 use Rattle.trace.proofs.stream.whole.Goals as goal
 

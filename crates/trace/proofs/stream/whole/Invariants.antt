@@ -1,8 +1,6 @@
-use Rattle.trace.proofs.stream.WholeInput.{Running, running_begins, running_room, running_next, running_done, printed_long}
+use Rattle.trace.proofs.stream.WholeInput.{Running}
 use lib.ListN.{length}
-use mathlib.Core.Path.{refl, sym}
 use Prim.Native.Nat.{◌-◌}
-use native.Mathlib.Omega.{arith}
 use Rattle.trace.proofs.stream.whole.Given as goal
 
 abbrev pub invariant-loop-at : goal.invariant-loop-at
