@@ -1,5 +1,6 @@
 -- Document 01, 'The trace program': from the bytes of a trace to the bytes printed.
-use Rattle.std.specs.Prelude.{ℕ, zero, suc, ◌+◌, ◌*◌, ◌/◌, ◌%◌, ◌^◌, Bool, true, false, ◌&&◌, cond, List, [], ◌∷◌, ◌++◌, length, take, drop, replicate, leb, ltb, eqb}
+use Rattle.std.specs.Prelude.{ℕ, zero, suc, ◌+◌, ◌*◌, ◌/◌, ◌%◌, ◌^◌, leb, ltb, eqb, Bool, true, false, ◌&&◌, cond}
+use Rattle.std.specs.Prelude.{List, [], ◌∷◌, ◌++◌, length, take, drop, replicate}
 use Prim.Native.String.{String, len, char_at}
 use Prim.Native.Char.{code}
 use Rattle.rules.specs.Types.{Good, Parity, Framing, Break, Tick, Hangup, Event, Call, Set, Receive, Read, Write, Transmit, Flush, Cancel}

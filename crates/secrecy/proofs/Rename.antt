@@ -206,7 +206,8 @@ module _ (f : ℕ → ℕ) where
 
   ---- A good byte
 
-  flushed_unless_to : (t : Bool) (z : Sizes) (s : State) (echo : List ℕ) → shown z (flushed_unless t (state s)) echo ≡ state (shown z (flushed_unless t s) echo)
+  flushed_unless_to : (t : Bool) (z : Sizes) (s : State) (echo : List ℕ)
+      → shown z (flushed_unless t (state s)) echo ≡ state (shown z (flushed_unless t s) echo)
   flushed_unless_to true z s echo = refl
   flushed_unless_to false z s echo = refl
 

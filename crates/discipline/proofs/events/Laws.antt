@@ -55,7 +55,8 @@ module _ (p : Port) (bs ms os : List ℕ) where
       -- what the event comes to on the port y and the first k places
       By : Port → ℕ → Type 0
       By y k =
-          Answers y (take k bs) (take k ms) os (steps.received (sizes_of y (length (take k bs)) (length os)) (state y (take k bs) (take k ms) os) e) r cs ns os'
+          Answers y (take k bs) (take k ms) os (steps.received (sizes_of y (length (take k bs)) (length os)) (state y (take k bs) (take k ms) os) e)
+          r cs ns os'
 
       given : Answers (within p bs ms os) (place_bytes bs ms) (place_marks bs ms) os (steps.received z s e) r cs ns os'
       given =

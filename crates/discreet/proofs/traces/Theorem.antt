@@ -187,7 +187,8 @@ module _ (z : Sizes) (rs ts : List Rec) (tail : List ℕ) (x : Settings) (q : Qu
   abbrev Led : ℕ → ℕ → State → List Rec → Type 0
   Led limit index s before =
       Follow x (calls_of rs) (calls_of ts) (trace_from z limit index s (encoded_all before))
-      (trace_from z limit index s (encoded_all before ++ (encoded_all rs ++ tail))) (trace_from z limit index s (encoded_all before ++ (encoded_all ts ++ tail)))
+      (trace_from z limit index s (encoded_all before ++ (encoded_all rs ++ tail)))
+      (trace_from z limit index s (encoded_all before ++ (encoded_all ts ++ tail)))
 
   led : (limit index : ℕ) (s : State) (before : List Rec) → (after z s (calls_of before)).settings ≡ x → Led limit index s before
   led zero index s [] h = (_, _, refl, refl, from_here z rs ts tail x q ds e zero index s h)

@@ -84,7 +84,8 @@ module _ (i : Input) (bs : List ℕ) (start end : ℕ) (t : Test) (r : Bool) (h 
       ))
 
   -- 'a unit of several bytes is a non-blank of the second class'
-  pub passes_several : (start + 1 ≡ end → ⊥) → r ≡ passes_of t false false → (ms : List ℕ) → length bs ≡ length ms → r ≡ test_of t (places_in i bs ms start end)
+  pub passes_several : (start + 1 ≡ end → ⊥) → r ≡ passes_of t false false → (ms : List ℕ) → length bs ≡ length ms
+      → r ≡ test_of t (places_in i bs ms start end)
   passes_several ne er =
       passes_by false false er
       (λ ms e.

@@ -183,7 +183,8 @@ module _ (p : Port) (n : ℕ) (os : List ℕ) where
       → Turns p n os (λ z s. steps.flushed_unless kept s) r os
   unless_flushed kept r e t bs ms eb em =
       let s : State = state p bs ms os in
-      as_state p r bs ms os bs ms os (flushing.flush_both s) (steps.flushed_unless kept s) (ap (λ (y : Bool). steps.flushed_unless y s) (sym e)) (t bs ms eb em)
+      as_state p r bs ms os bs ms os (flushing.flush_both s) (steps.flushed_unless kept s)
+      (ap (λ (y : Bool). steps.flushed_unless y s) (sym e)) (t bs ms eb em)
 
   -- flushed or not, then the echo
   pub signals_of : (b : ℕ) (q r : Port) (o : Output) (os' : List ℕ) → Turns p n os (λ z s. steps.flushed_unless p.settings.noflsh s) q os

@@ -6,7 +6,9 @@ use Rattle.rules.specs.Settings.{elem, enabled_of, distinct}
 use Rattle.settings.proofs.paired.Given as goal
 
 abbrev pub invariant-loop-k : goal.invariant-loop-k
-invariant-loop-k l = (l.found ≡ false) × (l.k ≤ length l.specials) × (elem l.b (enabled_of (drop (l.at + 1) l.specials)) ≡ elem l.b (enabled_of (drop l.k l.specials)))
+invariant-loop-k l =
+    (l.found ≡ false) × (l.k ≤ length l.specials)
+    × (elem l.b (enabled_of (drop (l.at + 1) l.specials)) ≡ elem l.b (enabled_of (drop l.k l.specials)))
 
 abbrev pub decreases-loop-k : goal.decreases-loop-k
 decreases-loop-k l = length l.specials - l.k

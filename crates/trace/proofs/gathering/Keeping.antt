@@ -159,7 +159,8 @@ module _ (z : Sizes) (m i : ℕ) (s : State) (x : List ℕ) where
 ---- The input ends
 
 module _ (z : Sizes) (m i : ℕ) (s : State) where
-  pub cut_short : (kept : List ℕ) (have : ℕ) → length kept ≡ most_kept → 0 < have → have < size_of kept → trace_from z (suc m) i s (come kept have) ≡ cut_line i
+  pub cut_short : (kept : List ℕ) (have : ℕ) → length kept ≡ most_kept → 0 < have → have < size_of kept
+      → trace_from z (suc m) i s (come kept have) ≡ cut_line i
   cut_short kept have e some lt = ⊎_elim short long (lt_or_le have header)
     where
       short : have < header → trace_from z (suc m) i s (come kept have) ≡ cut_line i

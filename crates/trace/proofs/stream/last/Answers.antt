@@ -15,11 +15,13 @@ returns-then-begun-eq0 c =
 pub returns-then-stream-ge-MOST : goal.returns-then-stream-ge-MOST
 returns-then-stream-ge-MOST c =
     let a = c.args in
-    last_full a.stream a.kept.now a.line.now (c.begun.ensures.value, c.begun.ensures.upper_bound) c.if-stream.false c.if-begun-eq0.false c.if-stream-ge-MOST.true
+    last_full a.stream a.kept.now a.line.now (c.begun.ensures.value, c.begun.ensures.upper_bound)
+    c.if-stream.false c.if-begun-eq0.false c.if-stream-ge-MOST.true
     c.put_full.ensures
 
 pub returns : goal.returns
 returns c =
     let a = c.args in
-    last_cut a.stream a.kept.now a.line.now (c.begun.ensures.value, c.begun.ensures.upper_bound) c.if-stream.false c.if-begun-eq0.false c.if-stream-ge-MOST.false
+    last_cut a.stream a.kept.now a.line.now (c.begun.ensures.value, c.begun.ensures.upper_bound)
+    c.if-stream.false c.if-begun-eq0.false c.if-stream-ge-MOST.false
     c.put_cut.ensures
