@@ -23,9 +23,6 @@ loop-k-init c = (omega arith, nothing c.args.line.now c.args.at)
 pub bounds-bytes-k : goal.bounds-bytes-k
 bounds-bytes-k c = omega arith
 
-pub hex_digit-requires : goal.hex_digit-requires
-hex_digit-requires c = omega (arith, c.shared_slice_known-in-loop-k-1.given c.loop-k.k)
-
 pub overflow_add-k : goal.overflow_add-k
 overflow_add-k c = omega arith
 

@@ -9,14 +9,6 @@ overflow_add-next c =
     let complete = c.take_in-taken.ensures.completed c.if-taken.true in
     omega (arith, complete.below)
 
-pub shape_of-kept-then-taken : goal.shape_of-kept-then-taken
-shape_of-kept-then-taken c =
-    c.kept-1.given
-
-pub shape_of-line-then-taken : goal.shape_of-line-then-taken
-shape_of-line-then-taken c =
-    c.line-then-taken-1.given ∙ c.line-1.given
-
 pub returns-then-taken : goal.returns-then-taken
 returns-then-taken c =
     feeds_record c.take_in-taken.ensures c.if-taken.true c.kind_of-kind.ensures c.end_of-to.ensures c.record-recorded.ensures
