@@ -40,8 +40,8 @@ newline_reserved x = refl
 return_reserved : (x : Settings) → elem 13 (reserved x) ≡ true
 return_reserved x = refl
 
-255-reserved : (x : Settings) → elem 255 (reserved x) ≡ true
-255-reserved x = refl
+reserved_255 : (x : Settings) → elem 255 (reserved x) ≡ true
+reserved_255 x = refl
 
 not_in : (b c : ℕ) (l : List ℕ) → elem b l ≡ false → elem c l ≡ true → eqb b c ≡ false
 not_in b c l e d = go (eqb b c) refl
@@ -69,7 +69,7 @@ apart x b e =
     record {
       newline = not_in b 10 (reserved x) e (newline_reserved x);
       return = not_in b 13 (reserved x) e (return_reserved x);
-      all_ones = not_in b 255 (reserved x) e (255-reserved x);
+      all_ones = not_in b 255 (reserved x) e (reserved_255 x);
       special = special_apart x b e;
     }
 
