@@ -82,7 +82,7 @@ fn shown_line(
 ) -> Output
     requires bytes_len { length bytes.now ≡ length marks.now }
     requires within { Within i (length marks.now) }
-    requires b_in_bounds { needed x o i bytes.now marks.now (length out.old) b ≤ length out.old }
+    requires room { needed x o i bytes.now marks.now (length out.old) b ≤ length out.old }
     ensures { Echoes x o out.old (reprinted x i bytes.now marks.now b i.queue.len) result out.new }
 {
     let q = i.queue;

@@ -59,7 +59,7 @@ fn passes(test: Test, blank: bool, letter: bool) -> bool
 // whether the unit from start to end passes; 'a unit of several bytes is a non-blank of the second class'
 fn passes_at(i: Input, bytes: &[u8], start: usize, end: usize, test: Test) -> bool
     requires within { Within i (length bytes.now) }
-    requires start_lt_end { (start < end) × (end ≤ i.queue.len) }
+    requires bounds { (start < end) × (end ≤ i.queue.len) }
     ensures { (ms : List ℕ) → length bytes.now ≡ length ms → result ≡ test_of test (places_in i bytes.now ms start end) }
 {
     let q = i.queue;

@@ -1,2 +1,2 @@
--- What is proved of an event: Laws has `received-goes` and `flushed-goes`.
+-- What is proved of an event: Laws has `received_goes` and `flushed_goes`.
 pub mod Laws

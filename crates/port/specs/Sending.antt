@@ -1,6 +1,6 @@
 -- What the calls on the output promise: the answer, the port and every byte of the slices, by the rules. A write and a
--- transmit are lent the output's slice alone, so the rules are asked at a state whose input is empty; `for-any-input` and
--- `transmits-for-any-input` in crates/discipline/proofs/sending/Promises.antt say that they answer the same at every input.
+-- transmit are lent the output's slice alone, so the rules are asked at a state whose input is empty; `for_any_input` and
+-- `transmits_for_any_input` in crates/discipline/proofs/sending/Promises.antt say that they answer the same at every input.
 use Rattle.std.specs.Prelude.{ℕ, ◌+◌, ◌%◌, Bool, true, false, cond, List, [], length}
 use Rattle.queue.specs.Ring.{stores}
 use Rattle.rules.specs.declared.Answer.{Answer}

@@ -106,24 +106,24 @@ pushed_fits q l l' bs le el =
 
 ---- at, change
 
-get_d_ring : (N n h i : ℕ) (l : List ℕ) → i < n → get_or (ring N n h l) i 0 ≡ get_or l ((h + i) % N) 0
-get_d_ring N zero h i l lt = absurd (omega arith)
-get_d_ring N (suc n) h zero l lt = rw add-zero
-get_d_ring N (suc n) h (suc i) l lt = rw (add-suc, ← suc-add) (get_d_ring N n (suc h) i l (omega arith))
+get_or_ring : (N n h i : ℕ) (l : List ℕ) → i < n → get_or (ring N n h l) i 0 ≡ get_or l ((h + i) % N) 0
+get_or_ring N zero h i l lt = absurd (omega arith)
+get_or_ring N (suc n) h zero l lt = rw add-zero
+get_or_ring N (suc n) h (suc i) l lt = rw (add-suc, ← suc-add) (get_or_ring N n (suc h) i l (omega arith))
 
-get_d_none : (l : List ℕ) (i : ℕ) → length l ≤ i → get_or l i 0 ≡ 0
-get_d_none [] i le = refl
-get_d_none (x ∷ l) zero le = absurd (omega arith)
-get_d_none (x ∷ l) (suc i) le = get_d_none l i (omega arith)
+get_or_none : (l : List ℕ) (i : ℕ) → length l ≤ i → get_or l i 0 ≡ 0
+get_or_none [] i le = refl
+get_or_none (x ∷ l) zero le = absurd (omega arith)
+get_or_none (x ∷ l) (suc i) le = get_or_none l i (omega arith)
 
 pub at_in : (q : Queue) (l : List ℕ) (i a : ℕ) → i < min q.len (length l) → a ≡ (q.head % length l + i) % length l
     → get_or l a 0 ≡ get_or (held q l) i 0
 unfolding held
 at_in q l i a lt e =
-    ap (λ (k : ℕ). get_or l k 0) (e ∙ mod-add-mod q.head (length l) i) ∙ sym (get_d_ring (length l) (min q.len (length l)) q.head i l lt)
+    ap (λ (k : ℕ). get_or l k 0) (e ∙ mod-add-mod q.head (length l) i) ∙ sym (get_or_ring (length l) (min q.len (length l)) q.head i l lt)
 
 pub at_out : (q : Queue) (l : List ℕ) (i : ℕ) → min q.len (length l) ≤ i → 0 ≡ get_or (held q l) i 0
-at_out q l i le = sym (get_d_none (held q l) i (rw held_length le))
+at_out q l i le = sym (get_or_none (held q l) i (rw held_length le))
 
 pub changed_in : (q : Queue) (l : List ℕ) (i b a : ℕ) → i < min q.len (length l) → a ≡ (q.head % length l + i) % length l
     → set l a b ≡ changed q l i b

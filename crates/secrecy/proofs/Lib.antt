@@ -1,4 +1,4 @@
--- What is proved of demand 3: Theorem has `secrecy` and `one-report`. Rename, Meanings, Keeps and Calls lead to it. Given says that only a read gives bytes.
+-- What is proved of demand 3: Theorem has `secrecy` and `one_report`. Rename, Meanings, Keeps and Calls lead to it. Given says that only a read gives bytes.
 pub mod Rename
 pub mod Meanings
 pub mod Keeps

@@ -36,7 +36,7 @@ fn keep(kept: &mut [u8], at: usize, b: u8)
 // bytes of the piece until the record is complete or the piece at its end; how many
 pub(crate) fn gather(kept: &mut [u8], have: usize, piece: &[u8]) -> usize
     requires kept_len { length kept.old ≡ most_kept }
-    requires have_value { is_open kept.old have ≡ true }
+    requires incomplete { is_open kept.old have ≡ true }
     requires have_lt_most_size { have < most_size }
     ensures { Gathers kept.old have piece.now result kept.new }
 {

@@ -1,5 +1,5 @@
 -- What a change of settings promises: the answer, the port and every byte of the slices, by the rules' `step` at the state that
--- `get` reads. `set` is lent no output slice, so the rules are asked with an empty one; `set-now` in proofs/Promises.antt says that
+-- `get` reads. `set` is lent no output slice, so the rules are asked with an empty one; `set_now` in proofs/Promises.antt says that
 -- they answer the same at every output slice.
 use Rattle.std.specs.Prelude.{ℕ, ◌≡◌, Bool, true, false, not, ◌&&◌, List, take, drop}
 use Rattle.rules.specs.declared.Settings.{Settings}

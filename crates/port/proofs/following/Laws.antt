@@ -1,5 +1,5 @@
 -- Every received event and every flush leaves the stored input longer at its end, or shorter there, and both queues within
--- the sizes: `received-goes`, `flushed-goes`. Assumes nothing.
+-- the sizes: `received_goes`, `flushed_goes`. Assumes nothing.
 use Prim.Native.Nat.{ℕ, zero, suc, ◌+◌, ◌≤◌}
 use native.Mathlib.Omega.{arith}
 use mathlib.Core.Path.{◌≡◌, refl, sym, ap, ◌∙◌}

@@ -1,4 +1,4 @@
--- `records::recorded` meets its contract: settings take 15 values (Places, `same-settings`). Assumes nothing.
+-- `records::recorded` meets its contract: settings take 15 values (Places, `same_settings`). Assumes nothing.
 use mathlib.Core.Path.{◌∙◌}
 use Rattle.rules.specs.Trace.{bit_of}
 use Rattle.records.proofs.Places.{same_settings}

@@ -9,7 +9,7 @@ shown_line-requires c =
     record {
       bytes_len = c.requires.bytes_len;
       within = c.requires.within;
-      b_in_bounds =
+      room =
           room_for a.x a.o a.i a.bytes.now a.marks.now a.out.now a.b c.requires.bytes_len c.requires.within t.result
           t.ensures c.if-fits.true;
     }

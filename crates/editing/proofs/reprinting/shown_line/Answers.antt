@@ -32,7 +32,7 @@ shape_of-out c =
     let f = c.show_line-shows in
     let a = c.args in
     shown_size a.x a.i a.bytes.now a.marks.now c.requires.bytes_len c.requires.within f.result f.new.out a.o a.out.now a.b
-    c.requires.b_in_bounds f.ensures l.k l.shows l.out l.invariant
+    c.requires.room f.ensures l.k l.shows l.out l.invariant
 
 pub returns : goal.returns
 returns c =
@@ -40,4 +40,4 @@ returns c =
     let f = c.show_line-shows in
     let a = c.args in
     shown_all a.x a.i a.bytes.now a.marks.now c.requires.bytes_len c.requires.within f.result f.new.out a.o a.out.now a.b
-    c.requires.b_in_bounds f.ensures l.k l.shows l.out l.invariant c.loop-k-test.false
+    c.requires.room f.ensures l.k l.shows l.out l.invariant c.loop-k-test.false

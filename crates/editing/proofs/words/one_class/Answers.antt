@@ -16,7 +16,7 @@ pub passes_at-letter-requires : goal.passes_at-letter-requires
 passes_at-letter-requires c =
     record {
       within = within_both c.args.i c.args.bytes.now c.args.marks.now c.requires.bytes_len c.requires.line.within;
-      start_lt_end = (omega (arith, c.unit_start-start.ensures.high, c.if-end-i.false), c.requires.line.high);
+      bounds = (omega (arith, c.unit_start-start.ensures.high, c.if-end-i.false), c.requires.line.high);
     }
 
 pub returns-then-letter : goal.returns-then-letter

@@ -24,7 +24,7 @@ passes_at-more-requires c =
     let inv = at-loop.invariant in
     record {
       within = within_both c.args.i c.args.bytes.now c.args.marks.now c.requires.bytes_len c.requires.line.within;
-      start_lt_end = (c.unit_start-start.ensures.high, omega (arith, inv.fewer, c.requires.line.high));
+      bounds = (c.unit_start-start.ensures.high, omega (arith, inv.fewer, c.requires.line.high));
     }
 
 pub returns-then-not-more : goal.returns-then-not-more

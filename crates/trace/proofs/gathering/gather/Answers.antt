@@ -6,7 +6,7 @@ use Rattle.trace.proofs.gathering.gather.Goals as goal
 
 pub loop-at-init : goal.loop-at-init
 loop-at-init c =
-    gathering_begins c.requires.kept_len c.requires.have_value c.requires.have_lt_most_size
+    gathering_begins c.requires.kept_len c.requires.incomplete c.requires.have_lt_most_size
 
 pub overflow_add-have : goal.overflow_add-have
 overflow_add-have c = omega (arith, c.loop-at.invariant.low)
@@ -40,7 +40,7 @@ shape_of-kept-else-is_open c =
 
 pub returns-else-is_open : goal.returns-else-is_open
 returns-else-is_open c =
-    gathered_all c.loop-at.invariant c.requires.have_value (c.is_open.ensures.value, c.is_open.ensures.have_lt_most_size) c.if-is_open.false
+    gathered_all c.loop-at.invariant c.requires.incomplete (c.is_open.ensures.value, c.is_open.ensures.have_lt_most_size) c.if-is_open.false
 
 pub shape_of-kept-after-loop-at : goal.shape_of-kept-after-loop-at
 shape_of-kept-after-loop-at c = c.loop-at.invariant.long ∙ sym c.requires.kept_len

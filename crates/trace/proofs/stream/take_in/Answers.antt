@@ -18,7 +18,7 @@ gather-used-requires c =
     let begun = c.begun-have in
     record {
       kept_len = c.requires;
-      have_value = begun_is_open c.args.kept.now c.args.stream.have begun.result begun.ensures.value;
+      incomplete = begun_is_open c.args.kept.now c.args.stream.have begun.result begun.ensures.value;
       have_lt_most_size = begun.ensures.upper_bound;
     }
 
