@@ -9,7 +9,7 @@ use Rattle.rules.specs.Output.{oldest}
 use Rattle.output.specs.Contract.{in_range, get, put, Sends}
 use Rattle.output.specs.declared.Output.{Output}
 use Rattle.queue.specs.Queue.{held, laid, Takes}
-use Rattle.queue.specs.declared.Taken.{Taken}
+use Rattle.queue.specs.declared.Counted.{Counted}
 use Rattle.queue.specs.declared.Queue.{Queue}
 use Rattle.queue.proofs.Laws.{laid_fitted}
 
@@ -39,8 +39,8 @@ sent_stopped o p l d t e =
       buffer = ap (λ (y : List ℕ). y ++ drop (length y) d) (sym none);
     }
 
-pub sent_some : (o : Output) (l d d' : List ℕ) (r : Taken) → o.stopped ≡ false → Takes o.queue l d r d'
-    → Sends o l d (record { output = record { queue = r.queue; column = o.column; stopped = o.stopped }; count = r.count }) d'
+pub sent_some : (o : Output) (l d d' : List ℕ) (r : Counted Queue) → o.stopped ≡ false → Takes o.queue l d r d'
+    → Sends o l d (record { output = record { queue = r.rest; column = o.column; stopped = o.stopped }; count = r.count }) d'
 unfolding get after_sending
 sent_some o l d d' r t k =
     let y : List ℕ = take (length d) (held o.queue l) in
@@ -48,7 +48,7 @@ sent_some o l d d' r t k =
     record {
       count = k.count ∙ ap length (sym same);
       output =
-          ap (λ (q : Queue). record { queue = q; column = o.column; stopped = o.stopped }) k.queue
+          ap (λ (q : Queue). record { queue = q; column = o.column; stopped = o.stopped }) k.rest
           ∙ ap (λ (c : List ℕ). record { queue = laid ((o.queue.head + length y) % length l) c; column = o.column; stopped = o.stopped })
           (sym (drop_taken (length d) (held o.queue l)))
           ∙ ap (after_sending o l) (sym same);

@@ -80,7 +80,7 @@ impl Output {
         }
         let q = self.queue;
         let taken = q.take(out, dst);
-        let queue = taken.queue;
+        let queue = taken.rest;
         Sent {
             output: Output {
                 queue: queue,

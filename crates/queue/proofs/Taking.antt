@@ -57,7 +57,7 @@ module _ (q f rest : Queue) (l d : List ℕ) (k : ℕ) (e : f ≡ fitted (length
 
   pub taken : {m : List ℕ} {i : ℕ} → Copied (held q l) d k i m → k ≤ i
       → rest ≡ record { head = (q.head + min k (min q.len (length l))) % length l; len = min q.len (length l) - k }
-      → Takes q l d (record { queue = rest; count = k }) m
+      → Takes q l d (record { rest = rest; count = k }) m
   taken {m} {i} a le er =
       let n : ℕ = length l in
       let c : List ℕ = held q l in
@@ -65,7 +65,7 @@ module _ (q f rest : Queue) (l d : List ℕ) (k : ℕ) (e : f ≡ fitted (length
       let count : k ≡ length (take (length d) c) = omega (arith, many, length-take (length d) c) in
       record {
         count = count;
-        queue =
+        rest =
             er
             ∙ ap₂ (λ (h x : ℕ). record { head = (q.head + h) % n; len = x })
             (omega (arith, count, many, held_length q l))

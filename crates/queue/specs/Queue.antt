@@ -3,7 +3,7 @@
 use Rattle.std.specs.Prelude.{ℕ, ◌+◌, ◌-◌, ◌%◌, min, ◌≡◌, cond, List, ◌++◌, length, set, take, drop, leb, ltb}
 use Rattle.queue.specs.Ring.{ring, stores}
 use Rattle.queue.specs.declared.Queue.{Queue}
-use Rattle.queue.specs.declared.Taken.{Taken}
+use Rattle.queue.specs.declared.Counted.{Counted}
 
 -- Any queue with any slice holds something, oldest first.
 unfoldable pub held : Queue → List ℕ → List ℕ
@@ -40,7 +40,7 @@ pub record Holds (q : Queue) (l c : List ℕ) (r : Queue) (l' : List ℕ) : Type
 ---- What taking a run promises. On the right of each equation stand values at entry only
 
 -- The oldest k bytes are given; the slice is as it was.
-pub record Takes (q : Queue) (l d : List ℕ) (r : Taken) (d' : List ℕ) : Type 0 where
+pub record Takes (q : Queue) (l d : List ℕ) (r : Counted Queue) (d' : List ℕ) : Type 0 where
   pub count : r.count ≡ length (take (length d) (held q l))
-  pub queue : r.queue ≡ laid ((q.head + length (take (length d) (held q l))) % length l) (drop (length d) (held q l))
+  pub rest : r.rest ≡ laid ((q.head + length (take (length d) (held q l))) % length l) (drop (length d) (held q l))
   pub buffer : d' ≡ take (length d) (held q l) ++ drop (length (take (length d) (held q l))) d

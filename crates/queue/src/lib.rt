@@ -31,10 +31,10 @@ pub struct Queue {
     pub len: usize,
 }
 
-// What is left, and how many bytes were given.
+// What is left or made, and how many bytes went.
 #[derive(Clone, Copy)]
-pub struct Taken {
-    pub queue: Queue,
+pub struct Counted<T> {
+    pub rest: T,
     pub count: usize,
 }
 
@@ -161,7 +161,7 @@ impl Queue {
     }
 
     // the oldest bytes into dst, as many as it has room for
-    pub fn take(self, ring: &[u8], dst: &mut [u8]) -> Taken
+    pub fn take(self, ring: &[u8], dst: &mut [u8]) -> Counted<Queue>
         ensures { Takes self ring.now dst.old result dst.new }
     {
         let fitted = self.fit(ring.len());
@@ -172,8 +172,8 @@ impl Queue {
             k += 1;
         }
         let rest = self.drop_oldest(ring, count);
-        Taken {
-            queue: rest,
+        Counted {
+            rest: rest,
             count: count,
         }
     }

@@ -10,7 +10,7 @@ use lib.Seq.{take_all, length-take-le, take-take, drop-append-le}
 use Rattle.queue.specs.Ring.{ring}
 use Rattle.queue.specs.Queue.{held, Takes}
 use Rattle.queue.specs.declared.Queue.{Queue}
-use Rattle.queue.specs.declared.Taken.{Taken as QueueTaken}
+use Rattle.queue.specs.declared.Counted.{Counted}
 use Rattle.queue.proofs.Rings.{lt_or_le, ring_mod, drop_ring}
 use Rattle.queue.proofs.Laws.{held_length}
 use Rattle.rules.specs.Sizes.{Place, Input as Ruled, used}
@@ -239,7 +239,7 @@ part_filled l d d' k ld ll e =
     ∙ ap (◌++◌ (take k l)) (drop_of_length-le (take k d) {i = k} (omega (arith, long)))
     ∙ append-nil (take k l)
 
-pub given_of_lem : (i : Input) (bs d : List ℕ) (k t : ℕ) (q : Queue) (f : QueueTaken) (d' : List ℕ) → Gives i bs d k t
+pub given_of_lem : (i : Input) (bs d : List ℕ) (k t : ℕ) (q : Queue) (f : Counted Queue) (d' : List ℕ) → Gives i bs d k t
     → Takes i.queue bs (take k d) f d'
     → q ≡ record { head = (i.queue.head + min t (min i.queue.len (length bs))) % length bs; len = min i.queue.len (length bs) - t }
     → Given i bs d k t (record { input = record { queue = q; ready = i.ready - t; literal = i.literal }; count = k }) (d' ++ drop k d)
