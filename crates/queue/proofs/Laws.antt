@@ -1,12 +1,13 @@
 -- Laws of what a queue holds, and one lemma for each way out of its functions. Assumes nothing.
 use mathlib.Core.Path.{◌≡◌, refl, sym, ap, ◌∙◌}
 use mathlib.Core.List.{List, [], ◌∷◌, ◌++◌}
-use Prim.Native.Nat.{ℕ, zero, suc, ◌+◌, ◌-◌, ◌%◌, ◌<◌, ◌≤◌, min}
-use native.Mathlib.Nat.{add-zero, zero-add, add-suc, suc-add, mod-add-mod, mod-lt}
+use Prim.Native.Nat.{ℕ, zero, suc, ◌+◌, ◌%◌, ◌<◌, ◌≤◌, min}
+use native.Mathlib.Nat.{add-zero, zero-add, add-suc, suc-add, mod-add-mod}
 use native.Mathlib.Omega.{arith}
 use lib.ListN.{length, get_or, set, length-append}
 use lib.Seq.{set-get_or}
-use borrow.Author.Tests.{le-leb, lt-leb, lt-ltb, le-ltb}
+use Rattle.std.proofs.lemmas.List.{get_or_past}
+use borrow.Author.Tests.{le-leb, lt-leb, lt-ltb}
 use Rattle.queue.specs.Ring.{ring, stores}
 use Rattle.queue.specs.Queue.{held, fitted, laid, appended, changed, Holds}
 use Rattle.queue.specs.declared.Queue.{Queue}
@@ -104,17 +105,19 @@ pushed_fits q l l' bs le el =
       ring = el ∙ put_append (length l) (min q.len (length l)) q.head l bs ∙ ap (stores (length l) l (q.head % length l)) (sym e);
     }
 
+-- one byte more, from the queue p in range
+pub push_of : (q p : Queue) (l : List ℕ) (b a : ℕ) → p ≡ fitted (length l) q → p.len < length l → a ≡ (p.head + p.len) % length l
+    → Holds q l (appended (length l) (held q l) (b ∷ [])) (record { head = p.head; len = p.len + 1 }) (set l a b)
+push_of q p l b a e lt ea =
+    let k : p.len ≡ min q.len (length l) = rw e in
+    rw e (pushed_fits q l (set l a b) (b ∷ []) (omega arith) (ap (λ (x : ℕ). set l x b) (rw e at ea)))
+
 ---- at, change
 
 get_or_ring : (N n h i : ℕ) (l : List ℕ) → i < n → get_or (ring N n h l) i 0 ≡ get_or l ((h + i) % N) 0
 get_or_ring N zero h i l lt = absurd (omega arith)
 get_or_ring N (suc n) h zero l lt = rw add-zero
 get_or_ring N (suc n) h (suc i) l lt = rw (add-suc, ← suc-add) (get_or_ring N n (suc h) i l (omega arith))
-
-get_or_none : (l : List ℕ) (i : ℕ) → length l ≤ i → get_or l i 0 ≡ 0
-get_or_none [] i le = refl
-get_or_none (x ∷ l) zero le = absurd (omega arith)
-get_or_none (x ∷ l) (suc i) le = get_or_none l i (omega arith)
 
 pub at_in : (q : Queue) (l : List ℕ) (i a : ℕ) → i < min q.len (length l) → a ≡ (q.head % length l + i) % length l
     → get_or l a 0 ≡ get_or (held q l) i 0
@@ -123,54 +126,13 @@ at_in q l i a lt e =
     ap (λ (k : ℕ). get_or l k 0) (e ∙ mod-add-mod q.head (length l) i) ∙ sym (get_or_ring (length l) (min q.len (length l)) q.head i l lt)
 
 pub at_out : (q : Queue) (l : List ℕ) (i : ℕ) → min q.len (length l) ≤ i → 0 ≡ get_or (held q l) i 0
-at_out q l i le = sym (get_or_none (held q l) i (rw held_length le))
+at_out q l i le = sym (get_or_past (held q l) i 0 (rw held_length le))
 
 pub changed_in : (q : Queue) (l : List ℕ) (i b a : ℕ) → i < min q.len (length l) → a ≡ (q.head % length l + i) % length l
     → set l a b ≡ changed q l i b
 changed_in q l i b a lt e =
     ap (λ (k : ℕ). set l k b) (e ∙ mod-add-mod q.head (length l) i)
     ∙ rw (lt-ltb i (min q.len (length l)) lt)
-
-pub changed_out : (q : Queue) (l : List ℕ) (i b : ℕ) → min q.len (length l) ≤ i → l ≡ changed q l i b
-changed_out q l i b le = rw (le-ltb i (min q.len (length l)) le)
-
----- The numbers of a queue in range
-
-pub fit_len : (q p : Queue) (n : ℕ) → p ≡ fitted n q → p.len ≡ min q.len n
-fit_len q p n e = ap (λ (x : Queue). x.len) e
-
-pub fit_head : (q p : Queue) (n : ℕ) → p ≡ fitted n q → p.head ≡ q.head % n
-fit_head q p n e = ap (λ (x : Queue). x.head) e
-
-pub fit_lt : (q p : Queue) (n : ℕ) → p ≡ fitted n q → 0 < n → p.head < n
-fit_lt q p n e pos = rw (fit_head q p n e) (mod-lt q.head pos)
-
----- The ways out, from the queue in range
-
-module _ (q p : Queue) (l : List ℕ) (e : p ≡ fitted (length l) q) where
-  pub push_of : (b a : ℕ) → p.len < length l → a ≡ (p.head + p.len) % length l
-      → Holds q l (appended (length l) (held q l) (b ∷ [])) (record { head = p.head; len = p.len + 1 }) (set l a b)
-  push_of b a lt ea =
-      let k : p.len ≡ min q.len (length l) = fit_len q p (length l) e in
-      let h : p.head ≡ q.head % length l = fit_head q p (length l) e in
-      rw (h, k) (pushed_fits q l (set l a b) (b ∷ []) (omega arith) (ap (λ (x : ℕ). set l x b) (rw (h, k) at ea)))
-
-  pub push_full_of : (b : ℕ) → length l ≤ p.len → Holds q l (appended (length l) (held q l) (b ∷ [])) p l
-  push_full_of b le = pushed_full q p l (b ∷ []) e (omega (arith, fit_len q p (length l) e))
-
-pub drop_oldest_of : (q p : Queue) (n k gone a : ℕ) → p ≡ fitted n q → gone ≡ min k p.len → a ≡ (p.head + gone) % n
-    → ◌≡◌ {A = Queue} (record { head = a; len = p.len - gone }) (record { head = (q.head + min k (min q.len n)) % n; len = min q.len n - k })
-drop_oldest_of q p n k gone a e eg ea =
-    let m : p.len ≡ min q.len n = fit_len q p n e in
-    let h : p.head ≡ q.head % n = fit_head q p n e in
-    let g : gone ≡ min k (min q.len n) = eg ∙ ap (min k) m in
-    let len : p.len - gone ≡ min q.len n - k = omega arith in
-    ap (λ (x : ℕ). record { head = x; len = p.len - gone }) (ea ∙ ap (λ (x : ℕ). (x + gone) % n) h ∙ mod-add-mod q.head n gone
-    ∙ ap (λ (x : ℕ). (q.head + x) % n) g)
-    ∙ ap (λ (x : ℕ). record { head = (q.head + min k (min q.len n)) % n; len = x }) len
-
-pub place_lt : (x a n : ℕ) → a ≡ x % n → 0 < n → a < n
-place_lt x a n e pos = rw e (mod-lt x pos)
 
 ---- Laid twice
 

@@ -11,6 +11,7 @@ use native.Mathlib.Nat.{not-suc-le-zero, sub-zero, suc-sub-suc}
 use native.Mathlib.Omega.{arith}
 use lib.ListN.{length, get_or, set, take, drop, length-set}
 use lib.Seq.{get_or-set_same, get_or-set_other}
+use Rattle.std.proofs.lemmas.List.{append-nil}
 use Rattle.queue.specs.Ring.{ring, stores}
 
 pub lt_or_le : (a b : ℕ) → (a < b) ⊎ (b ≤ a)
@@ -82,13 +83,9 @@ pub stores_snoc : (N i b : ℕ) (l bs : List ℕ) → stores N l i (bs ++ (b ∷
 stores_snoc N i b l [] = rw add-zero
 stores_snoc N i b l (x ∷ bs) = rw (add-suc, ← suc-add) (stores_snoc N (suc i) b (set l (i % N) x) bs)
 
-append_nil' : (l : List ℕ) → l ≡ l ++ []
-append_nil' [] = refl
-append_nil' (x ∷ l) = ap (λ (t : List ℕ). x ∷ t) (append_nil' l)
-
 -- a run of stores after the last place
 pub ring_stores : (N n h : ℕ) (l bs : List ℕ) → N ≤ length l → n + length bs ≤ N → ring N (n + length bs) h (stores N l (h + n) bs) ≡ ring N n h l ++ bs
-ring_stores N n h l [] len le = rw add-zero (append_nil' (ring N n h l))
+ring_stores N n h l [] len le = rw add-zero (sym (append-nil (ring N n h l)))
 ring_stores N n h l (b ∷ bs) len le =
     let e : h + suc n ≡ suc (h + n) = add-suc h n in
     let l' : List ℕ = set l ((h + n) % N) b in

@@ -9,20 +9,14 @@ ghost use Rattle.queue.specs.Queue.{held, fitted, laid, appended, changed, Holds
 pub fn least(a: usize, b: usize) -> usize
     ensures { result ≡ min a b }
 {
-    if a < b {
-        return a;
-    }
-    b
+    a.min(b)
 }
 
 // a − b, not below 0
 pub fn less(a: usize, b: usize) -> usize
     ensures { result ≡ a - b }
 {
-    if b > a {
-        return 0;
-    }
-    a - b
+    a.saturating_sub(b)
 }
 
 #[derive(Clone, Copy)]
@@ -43,23 +37,14 @@ fn wrap(place: usize, n: usize) -> usize
     requires { place < n + n }
     ensures { result ≡ place % n }
 {
-    if place < n {
-        return place;
-    }
-    place - n
+    if place < n { place } else { place - n }
 }
 
 // a head modulo n, as it is where n is 0; a division only where it is out of range
 fn home(head: usize, n: usize) -> usize
     ensures { result ≡ head % n }
 {
-    if head < n {
-        return head;
-    }
-    if n == 0 {
-        return head;
-    }
-    head % n
+    if head < n || n == 0 { head } else { head % n }
 }
 
 impl Queue {
@@ -73,11 +58,9 @@ impl Queue {
     pub fn fit(self, n: usize) -> Queue
         ensures { result ≡ fitted n self }
     {
-        let head = home(self.head, n);
-        let len = least(self.len, n);
         Queue {
-            head: head,
-            len: len,
+            head: home(self.head, n),
+            len: self.len.min(n),
         }
     }
 
@@ -87,17 +70,15 @@ impl Queue {
     {
         let n = ring.len();
         let q = self.fit(n);
-        let head = q.head;
-        let len = q.len;
-        if len < n {
-            let at = wrap(head + len, n);
-            ring[at] = b;
-            return Queue {
-                head: head,
-                len: len + 1,
-            };
+        if q.len < n {
+            ring[wrap(q.head + q.len, n)] = b;
+            Queue {
+                len: q.len + 1,
+                ..q
+            }
+        } else {
+            q
         }
-        q
     }
 
     // without its k oldest
@@ -106,12 +87,10 @@ impl Queue {
     {
         let n = ring.len();
         let q = self.fit(n);
-        let len = q.len;
-        let gone = least(k, len);
-        let head = home(q.head + gone, n);
+        let gone = k.min(q.len);
         Queue {
-            head: head,
-            len: len - gone,
+            head: home(q.head + gone, n),
+            len: q.len - gone,
         }
     }
 
@@ -120,10 +99,9 @@ impl Queue {
         ensures { result ≡ without_newest n k self }
     {
         let q = self.fit(n);
-        let len = less(q.len, k);
         Queue {
-            head: q.head,
-            len: len,
+            len: q.len.saturating_sub(k),
+            ..q
         }
     }
 
@@ -131,8 +109,10 @@ impl Queue {
     pub fn drop_all(self, n: usize) -> Queue
         ensures { result ≡ laid (self.head % n) [] }
     {
-        let head = home(self.head, n);
-        Queue { head: head, len: 0 }
+        Queue {
+            head: home(self.head, n),
+            len: 0,
+        }
     }
 
     // the byte at place k, the oldest at 0; 0 behind the newest
@@ -142,10 +122,10 @@ impl Queue {
         let n = ring.len();
         let q = self.fit(n);
         if k < q.len {
-            let at = wrap(q.head + k, n);
-            return ring[at];
+            ring[wrap(q.head + k, n)]
+        } else {
+            0
         }
-        0
     }
 
     // place k holds b from now on; behind the newest nothing changes
@@ -155,8 +135,7 @@ impl Queue {
         let n = ring.len();
         let q = self.fit(n);
         if k < q.len {
-            let at = wrap(q.head + k, n);
-            ring[at] = b;
+            ring[wrap(q.head + k, n)] = b;
         }
     }
 
@@ -164,17 +143,13 @@ impl Queue {
     pub fn take(self, ring: &[u8], dst: &mut [u8]) -> Counted<Queue>
         ensures { Takes self ring.now dst.old result dst.new }
     {
-        let fitted = self.fit(ring.len());
-        let count = least(fitted.len, dst.len());
-        let mut k = 0;
-        while k < count {
+        let count = self.fit(ring.len()).len.min(dst.len());
+        for k in 0..count {
             dst[k] = self.at(ring, k);
-            k += 1;
         }
-        let rest = self.drop_oldest(ring, count);
         Counted {
-            rest: rest,
-            count: count,
+            rest: self.drop_oldest(ring, count),
+            count,
         }
     }
 }
