@@ -93,7 +93,7 @@ pub enum Call {
     SettingsVerdict(Process),
 }
 
-#[derive(Clone, Copy)]
+#[derive(Clone, Copy, PartialEq, Eq)]
 pub enum Signal {
     Int,
     Quit,
@@ -158,7 +158,7 @@ pub enum Waiting {
 }
 
 // 'Each of the 256 byte values has one class'.
-#[derive(Clone, Copy)]
+#[derive(Clone, Copy, PartialEq, Eq)]
 pub enum Class {
     Blank,
     Letter,
