@@ -37,15 +37,11 @@ fn fits(o: Output, x: Settings, i: Input, bytes: &[u8], marks: &[u8], size: usiz
     requires within { Within i (length marks.now) }
     ensures { result ≡ leb (needed x o i bytes.now marks.now size b) size }
 {
-    let q = i.queue;
-    let len = q.len;
     let begun = o.measure(size);
     let own = echo::measured(begun, x, b);
     let mut measure = own.and(x, 10);
-    let mut k = i.ready;
-    while k < len {
+    for k in i.ready..i.queue.len {
         measure = measured(measure, x, i, bytes, marks, k);
-        k += 1;
     }
     measure.fits
 }
@@ -85,13 +81,9 @@ fn shown_line(
     requires room { needed x o i bytes.now marks.now (length out.old) b ≤ length out.old }
     ensures { Echoes x o out.old (reprinted x i bytes.now marks.now b i.queue.len) result out.new }
 {
-    let q = i.queue;
-    let len = q.len;
     let mut shows = echo::show_line(o, x, out, b);
-    let mut k = i.ready;
-    while k < len {
+    for k in i.ready..i.queue.len {
         shows = shown(shows, x, i, bytes, marks, out, k);
-        k += 1;
     }
     shows
 }

@@ -1,5 +1,4 @@
 -- `editing::reprinting::fits` meets its contract. Assumes nothing.
-use native.Mathlib.Omega.{arith}
 use Rattle.editing.proofs.reprinting.Laws.{measuring_none, measuring_next, measured_all}
 use Rattle.editing.proofs.reprinting.fits.Goals as goal
 
@@ -7,13 +6,6 @@ pub loop-k-init : goal.loop-k-init
 loop-k-init c =
     let a = c.args in
     measuring_none a.x a.i a.bytes.now a.marks.now c.requires.bytes_len c.requires.within c.and-measure.result
-
-pub overflow_add-k : goal.overflow_add-k
-overflow_add-k c =
-    omega (arith, c.loop-k-test.true, c.requires.within.len)
-
-pub loop-k-smaller : goal.loop-k-smaller
-loop-k-smaller c = omega (arith, c.loop-k-test.true)
 
 pub loop-k-preserved : goal.loop-k-preserved
 loop-k-preserved c =

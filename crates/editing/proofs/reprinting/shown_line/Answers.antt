@@ -1,5 +1,4 @@
 -- `editing::reprinting::shown_line` meets its contract. Assumes nothing.
-use native.Mathlib.Omega.{arith}
 use Rattle.editing.proofs.reprinting.Laws.{showing_none, showing_next, shown_size, shown_all}
 use Rattle.editing.proofs.reprinting.shown_line.Goals as goal
 
@@ -8,13 +7,6 @@ loop-k-init c =
     let a = c.args in
     let f = c.show_line-shows in
     showing_none a.x a.i a.bytes.now a.marks.now c.requires.bytes_len c.requires.within f.result f.new.out
-
-pub overflow_add-k : goal.overflow_add-k
-overflow_add-k c =
-    omega (arith, c.loop-k-test.true, c.requires.within.len)
-
-pub loop-k-smaller : goal.loop-k-smaller
-loop-k-smaller c = omega (arith, c.loop-k-test.true)
 
 pub loop-k-preserved : goal.loop-k-preserved
 loop-k-preserved c =
