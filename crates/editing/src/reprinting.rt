@@ -24,11 +24,10 @@ fn measured(
     ensures { ExtendsBy x measure (place_echo x i bytes.now marks.now k) result }
 {
     if super::is_shown(i, marks, k) {
-        let q = i.queue;
-        let b = q.at(bytes, k);
-        return echo::measured(measure, x, b);
+        echo::measured(measure, x, i.queue.at(bytes, k))
+    } else {
+        measure
     }
-    measure
 }
 
 // whether the echo of b, 10 and what the line shows fit in so many bytes
@@ -37,9 +36,7 @@ fn fits(o: Output, x: Settings, i: Input, bytes: &[u8], marks: &[u8], size: usiz
     requires within { Within i (length marks.now) }
     ensures { result ≡ leb (needed x o i bytes.now marks.now size b) size }
 {
-    let begun = o.measure(size);
-    let own = echo::measured(begun, x, b);
-    let mut measure = own.and(x, 10);
+    let mut measure = echo::measured(o.measure(size), x, b).and(x, 10);
     for k in i.ready..i.queue.len {
         measure = measured(measure, x, i, bytes, marks, k);
     }
@@ -59,11 +56,10 @@ fn shown(
     ensures { Echoes x o out.old (place_echo x i bytes.now marks.now k) result out.new }
 {
     if super::is_shown(i, marks, k) {
-        let q = i.queue;
-        let again = q.at(bytes, k);
-        return echo::show(o, x, out, again);
+        echo::show(o, x, out, i.queue.at(bytes, k))
+    } else {
+        o.fit(out.len())
     }
-    o.fit(out.len())
 }
 
 // the echo of b, 10 and what the line shows, for which there is room
@@ -103,11 +99,9 @@ pub fn of_reprinted(
     ensures { Echoes x o out.old (edit_echo x reprint b 0 (units (get i bytes.now marks.now).current)) result out.new }
 {
     let n = out.len();
-    if x.echo {
-        if fits(o, x, i, bytes, marks, n, b) {
-            return shown_line(o, x, i, bytes, marks, out, b);
-        }
-        return o.fit(n);
+    if x.echo && fits(o, x, i, bytes, marks, n, b) {
+        shown_line(o, x, i, bytes, marks, out, b)
+    } else {
+        o.fit(n)
     }
-    o.fit(n)
 }

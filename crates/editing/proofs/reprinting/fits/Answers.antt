@@ -19,8 +19,8 @@ pub returns : goal.returns
 returns c =
     let l = c.loop-k in
     let m = c.and-measure in
-    let own = c.measured-own in
-    let begun = c.measure-begun in
+    let own = c.measured in
+    let begun = c.measure in
     let a = c.args in
     measured_all a.x a.i a.bytes.now a.marks.now c.requires.bytes_len c.requires.within m.result a.o a.size a.b begun.result own.result
     begun.ensures own.ensures m.ensures l.k l.measure l.invariant c.loop-k-test.false

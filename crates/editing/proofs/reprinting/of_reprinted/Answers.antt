@@ -1,6 +1,7 @@
 -- `editing::reprinting::of_reprinted` meets its contract. Assumes nothing.
 use Rattle.editing.proofs.reprinting.Laws.{room_for, reprints, reprints_nothing, reprints_unseen}
 use Rattle.editing.proofs.reprinting.of_reprinted.Goals as goal
+use Rattle.editing.proofs.reprinting.of_reprinted.Goals.{else-x-via-then-x+else-fits, else-x-via-else-x}
 
 pub shown_line-requires : goal.shown_line-requires
 shown_line-requires c =
@@ -22,16 +23,14 @@ returns-then-fits c =
     reprints a.x a.o a.i a.bytes.now a.marks.now a.out.now a.b c.requires.bytes_len c.requires.within r.result r.new.out
     at-if1.true r.ensures
 
-pub returns-then-x : goal.returns-then-x
-returns-then-x c =
-    let t = c.fits in
-    let at-if1 = c.if-x in
+pub returns-else-x : goal.returns-else-x
+returns-else-x c =
     let a = c.args in
-    reprints_nothing a.x a.o a.i a.bytes.now a.marks.now a.out.now a.b c.requires.bytes_len c.requires.within t.result c.fit.result
-    at-if1.true t.ensures c.if-fits.false c.fit.ensures
-
-pub returns : goal.returns
-returns c =
-    let a = c.args in
-    reprints_unseen a.x a.o a.i a.bytes.now a.marks.now a.out.now a.b c.requires.bytes_len c.requires.within c.fit-2.result c.if-x.false
-    c.fit-2.ensures
+    elim c.else-x.branch [
+      | else-x-via-then-x+else-fits w ↦
+          reprints_nothing a.x a.o a.i a.bytes.now a.marks.now a.out.now a.b c.requires.bytes_len c.requires.within w.fits.result c.fit.result
+          w.if-x.true w.fits.ensures w.if-fits.false c.fit.ensures
+      | else-x-via-else-x w ↦
+          reprints_unseen a.x a.o a.i a.bytes.now a.marks.now a.out.now a.b c.requires.bytes_len c.requires.within c.fit.result w.if-x.false
+          c.fit.ensures
+    ]

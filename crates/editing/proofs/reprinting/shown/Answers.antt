@@ -9,7 +9,7 @@ use Rattle.editing.proofs.reprinting.shown.Goals as goal
 pub returns-then-is_shown : goal.returns-then-is_shown
 returns-then-is_shown c =
     let r = c.show in
-    let v = c.at-again in
+    let v = c.at in
     let at-if1 = c.if-is_shown in
     let t = c.is_shown in
     let a = c.args in
@@ -18,8 +18,8 @@ returns-then-is_shown c =
     (place_seen a.x a.i a.bytes.now a.marks.now a.k t.result t.ensures v.result at-if1.true v.ensures)
     r.ensures
 
-pub returns : goal.returns
-returns c =
+pub returns-else-is_shown : goal.returns-else-is_shown
+returns-else-is_shown c =
     let a = c.args in
     let t = c.is_shown in
     shows_as a.x a.o c.fit.result a.out.now a.out.now [] (place_echo a.x a.i a.bytes.now a.marks.now a.k)
