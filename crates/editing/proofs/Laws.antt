@@ -1,6 +1,6 @@
 -- Laws of the units of the current line, and one lemma for each way out of the functions. Assumes nothing.
 use mathlib.Core.Path.{◌≡◌, refl, sym, ap, ◌∙◌}
-use mathlib.Core.Logic.{◌⊎◌, inl, inr, ⊎_elim}
+use mathlib.Core.Logic.{◌⊎◌, ⊎_elim}
 use mathlib.Core.Bool.{Bool, true, false, cond}
 use mathlib.Core.List.{List, [], ◌∷◌, ◌++◌, reverse, reverse-append}
 use Prim.Native.Nat.{ℕ, zero, suc, ◌+◌, ◌-◌, ◌%◌, ◌<◌, ◌≤◌, min}
@@ -124,36 +124,35 @@ module _ (i : Input) (bs ms : List ℕ) (e : length bs ≡ length ms) (h : Withi
 
 ---- unit_start
 
--- the walk back from `end`, at `at`: no place behind it begins a unit
+-- the walk back from `end`, at `at`: no place from there on begins a unit
 pub record Seeking (i : Input) (ms : List ℕ) (end at : ℕ) : Type 0 where
-  pub low : i.ready ≤ at
-  pub high : at < end
-  pub none : (k : ℕ) → at < k → k < end → eqb (get_or (held i.queue ms) k 0 % 2) 1 ≡ false
+  pub low : i.ready < at
+  pub high : at ≤ end
+  pub none : (k : ℕ) → at ≤ k → k < end → eqb (get_or (held i.queue ms) k 0 % 2) 1 ≡ false
 
-pub seek_begin : (i : Input) (ms : List ℕ) (end : ℕ) → i.ready < end → Seeking i ms end (end - 1)
-seek_begin i ms end lt = record { low = omega arith; high = omega arith; none = λ k lo hi. absurd (omega arith) }
+pub seek_begin : (i : Input) (ms : List ℕ) (end : ℕ) → i.ready < end → Seeking i ms end end
+seek_begin i ms end lt = record { low = lt; high = omega arith; none = λ k lo hi. absurd (omega arith) }
 
-pub seek_next : (i : Input) (ms : List ℕ) (end at : ℕ) → Seeking i ms end at → i.ready < at
-    → eqb (get_or (held i.queue ms) at 0 % 2) 1 ≡ false → Seeking i ms end (at - 1)
-seek_next i ms end at s lt further =
+pub seek_next : (i : Input) (ms : List ℕ) (end at now : ℕ) → Seeking i ms end now → at + 1 ≡ now → i.ready < at
+    → eqb (get_or (held i.queue ms) at 0 % 2) 1 ≡ false → Seeking i ms end at
+seek_next i ms end at now s en lt further =
     record {
-      low = omega arith;
+      low = lt;
       high = omega (arith, s.high);
-      none = λ k lo hi. ⊎_elim (λ (w : k ≡ at). rw w further) (λ (w : at < k). s.none k w hi) (equal_or_above k at (omega arith));
+      none =
+          λ k lo hi. ⊎_elim (λ (w : at < k). s.none k (omega arith) hi) (λ (w : k ≤ at). rw (le_antisymm w lo) further) (lt_or_le at k);
     }
-  where
-    equal_or_above : (k at : ℕ) → at ≤ k → (k ≡ at) ⊎ (at < k)
-    equal_or_above k at le = ⊎_elim (λ (w : at < k). inr w) (λ (w : k ≤ at). inl (le_antisymm w le)) (lt_or_le at k)
 
-pub seek_end : (i : Input) (ms : List ℕ) (end at : ℕ) → Line i ms end → Seeking i ms end at
+pub seek_end : (i : Input) (ms : List ℕ) (end at now : ℕ) → Line i ms end → Seeking i ms end now → at + 1 ≡ now
     → (eqb (get_or (held i.queue ms) at 0 % 2) 1 ≡ true) ⊎ (at ≡ i.ready) → Starts i ms end at
-seek_end i ms end at l s begins =
-    let n : ℕ = end - suc at in
+seek_end i ms end at now l s en begins =
+    let n : ℕ = end - now in
     let long : suc (at + n) ≡ end = omega (arith, s.high) in
+    let low : i.ready ≤ at = omega (arith, s.low) in
     record {
-      low = s.low;
-      high = s.high;
-      unit = λ bs e. rw long at (unit_run i bs ms e l.within n at s.low (omega (arith, l.high)) begins (λ k lo hi. s.none k lo (omega arith)));
+      low = low;
+      high = omega (arith, s.high);
+      unit = λ bs e. rw long at (unit_run i bs ms e l.within n at low (omega (arith, l.high)) begins (λ k lo hi. s.none k (omega arith) (omega arith)));
     }
 
 ---- The walks back
@@ -281,7 +280,3 @@ module _ (i : Input) (bs ms : List ℕ) (x : Settings) (edit : Edit) (r : Run) (
   pub edited_becomes : InputBecomes i bs ms (edited x edit (get i bs ms)) (shortened r.at i) bs ms
   unfolding get
   edited_becomes = rw (← a.line) (cut_becomes i bs ms e r.at (rw e h) a.low)
-
--- a mark that was read, and what was asked of it
-pub asked_start : (m v : ℕ) (r t : Bool) → m ≡ v → r ≡ eqb (m % 2) 1 → r ≡ t → eqb (v % 2) 1 ≡ t
-asked_start m v r t em er et = ap (λ (x : ℕ). eqb (x % 2) 1) (sym em) ∙ sym er ∙ et

@@ -1,14 +1,13 @@
--- What REPRINT shows, place by place, and one lemma for each way out of `is_shown`. Assumes nothing.
+-- What REPRINT shows, place by place. Assumes nothing.
 use mathlib.Core.Path.{◌≡◌, refl, sym, ap, ◌∙◌}
 use mathlib.Core.Logic.{⊎_elim}
 use mathlib.Core.Bool.{Bool, true, false, not, ◌&&◌, ◌||◌, cond}
 use mathlib.Core.List.{List, [], ◌∷◌, ◌++◌, append-nil}
-use Prim.Native.Nat.{ℕ, suc, ◌+◌, ◌-◌, ◌/◌, ◌%◌, ◌<◌, ◌≤◌}
+use Prim.Native.Nat.{ℕ, suc, ◌+◌, ◌-◌, ◌<◌, ◌≤◌}
 use native.Mathlib.Nat.{le_antisymm}
 use native.Mathlib.Numerals.{add-one}
 use native.Mathlib.Omega.{arith}
 use lib.ListN.{length, get_or}
-use lib.Dec.{eqb}
 use borrow.Author.Tests.{eq-eqb, ne_eqb}
 use Rattle.queue.specs.Queue.{held}
 use Rattle.queue.proofs.Rings.{lt_or_le}
@@ -19,7 +18,7 @@ use Rattle.rules.specs.declared.Settings.{Settings}
 use Rattle.input.specs.Contract.{line_to, Within}
 use Rattle.input.specs.declared.Input.{Input}
 use Rattle.editing.specs.Contract.{place_at, units_to, shows_at}
-use Rattle.editing.proofs.Laws.{line_next, line_none, asked_start}
+use Rattle.editing.proofs.Laws.{line_next, line_none}
 
 ---- What the line shows
 
@@ -95,25 +94,3 @@ echo_next x i bs ms k e h le lt =
     ∙ ap (λ (l : List Place). line_echo x (units l) ++ shown true) (sym none)
     ∙ ap (λ (t : Bool). line_echo x (units line) ++ shown t) (sym (eq-eqb k i.ready (le_antisymm w le))))
     (lt_or_le i.ready k)
-
----- The tests of the code
-
-module _ (i : Input) (ms : List ℕ) (k m : ℕ) (s : Bool) (em : m ≡ get_or (held i.queue ms) k 0) (es : s ≡ eqb (m / 8 % 2) 1) where
-  asked_silent : eqb (get_or (held i.queue ms) k 0 / 8 % 2) 1 ≡ s
-  asked_silent = ap (λ (x : ℕ). eqb (x / 8 % 2) 1) (sym em) ∙ sym es
-
-  pub shown_silent : s ≡ true → false ≡ shows_at i ms k
-  shown_silent t = sym (ap (λ (x : Bool). not x && (eqb k i.ready || eqb (get_or (held i.queue ms) k 0 % 2) 1)) (asked_silent ∙ t))
-
-  pub shown_first : s ≡ false → k ≡ i.ready → true ≡ shows_at i ms k
-  shown_first f first =
-      sym
-      (ap (λ (x : Bool). not x && (eqb k i.ready || eqb (get_or (held i.queue ms) k 0 % 2) 1)) (asked_silent ∙ f)
-      ∙ ap (λ (x : Bool). x || eqb (get_or (held i.queue ms) k 0 % 2) 1) (eq-eqb k i.ready first))
-
-  pub shown_behind : (r : Bool) → s ≡ false → (k ≡ i.ready → ⊥) → r ≡ eqb (m % 2) 1 → r ≡ shows_at i ms k
-  shown_behind r f behind er =
-      sym
-      (ap (λ (x : Bool). not x && (eqb k i.ready || eqb (get_or (held i.queue ms) k 0 % 2) 1)) (asked_silent ∙ f)
-      ∙ ap (λ (x : Bool). x || eqb (get_or (held i.queue ms) k 0 % 2) 1) (ne_eqb k i.ready behind)
-      ∙ asked_start m (get_or (held i.queue ms) k 0) r r em er refl)

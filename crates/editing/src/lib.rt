@@ -26,16 +26,12 @@ pub(crate) fn unit_start(i: Input, marks: &[u8], end: usize) -> usize
     requires ready_lt_end { i.ready < end }
     ensures { Starts i marks.now end result }
 {
-    let q = i.queue;
-    let mut at = end - 1;
-    while at > i.ready {
-        let m = q.at(marks, at);
-        if input::starts(m) {
+    for at in (i.ready + 1..end).rev() {
+        if input::starts(i.queue.at(marks, at)) {
             return at;
         }
-        at = at - 1;
     }
-    at
+    i.ready
 }
 
 // one unit before end, where there is one
@@ -47,7 +43,7 @@ pub(crate) fn one(i: Input, marks: &[u8], end: usize) -> Run
         return Run { at: end, units: 0 };
     }
     let at = unit_start(i, marks, end);
-    Run { at: at, units: 1 }
+    Run { at, units: 1 }
 }
 
 // 'ERASE removes the last unit of the current line'
@@ -55,8 +51,7 @@ pub fn last_unit(i: Input, marks: &[u8]) -> Run
     requires { Within i (length marks.now) }
     ensures { RemovesBy (λ us. min 1 (length us)) i marks.now result }
 {
-    let q = i.queue;
-    one(i, marks, q.len)
+    one(i, marks, i.queue.len)
 }
 
 // 'KILL all of it'
@@ -64,8 +59,7 @@ pub fn whole_line(i: Input, marks: &[u8]) -> Run
     requires { Within i (length marks.now) }
     ensures { RemovesBy length i marks.now result }
 {
-    let q = i.queue;
-    let mut begin = q.len;
+    let mut begin = i.queue.len;
     let mut count = 0;
     while begin > i.ready {
         begin = unit_start(i, marks, begin);
@@ -81,13 +75,6 @@ pub fn whole_line(i: Input, marks: &[u8]) -> Run
 pub(crate) fn is_shown(i: Input, marks: &[u8], k: usize) -> bool
     ensures { result ≡ shows_at i marks.now k }
 {
-    let q = i.queue;
-    let m = q.at(marks, k);
-    if input::silent(m) {
-        return false;
-    }
-    if k == i.ready {
-        return true;
-    }
-    input::starts(m)
+    let m = i.queue.at(marks, k);
+    !input::silent(m) && (k == i.ready || input::starts(m))
 }

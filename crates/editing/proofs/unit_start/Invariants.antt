@@ -3,6 +3,3 @@ use Rattle.editing.proofs.unit_start.Given as goal
 
 abbrev pub invariant-loop-at : goal.invariant-loop-at
 invariant-loop-at l = Seeking l.i l.marks l.end l.at
-
-abbrev pub decreases-loop-at : goal.decreases-loop-at
-decreases-loop-at l = l.at
