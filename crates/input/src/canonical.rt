@@ -11,27 +11,23 @@ pub fn without_marks(i: Input, bytes: &mut [u8], marks: &mut [u8]) -> Input
     requires { Sound i bytes.old marks.old }
     ensures { GoesOff i bytes.old marks.old result bytes.new marks.new }
 {
-    let q = i.queue;
-    let len = q.len;
-    let mut k = 0;
     let mut kept = 0;
-    while k < len {
-        let m = q.at(marks, k);
+    for k in 0..i.queue.len {
+        let m = i.queue.at(marks, k);
         if !super::is_mark(m) {
-            let b = q.at(bytes, k);
-            q.change(bytes, kept, b);
-            q.change(marks, kept, m % 16);
+            let b = i.queue.at(bytes, k);
+            i.queue.change(bytes, kept, b);
+            i.queue.change(marks, kept, m % 16);
             kept += 1;
         }
-        k += 1;
     }
     Input {
         queue: Queue {
-            head: q.head,
             len: kept,
+            ..i.queue
         },
         ready: kept,
-        literal: i.literal,
+        ..i
     }
 }
 
@@ -40,14 +36,10 @@ pub fn one_line(i: Input, marks: &mut [u8]) -> Input
     requires { Within i (length marks.old) }
     ensures { GoesOn i marks.old result marks.new }
 {
-    let q = i.queue;
-    let len = q.len;
-    let mut k = 0;
-    while k < len {
-        let m = q.at(marks, k);
-        let joined = in_line(m, k + 1 == len);
-        q.change(marks, k, joined);
-        k += 1;
+    let len = i.queue.len;
+    for k in 0..len {
+        let joined = in_line(i.queue.at(marks, k), k + 1 == len);
+        i.queue.change(marks, k, joined);
     }
     Input { ready: len, ..i }
 }
@@ -57,8 +49,5 @@ fn in_line(m: u8, last: bool) -> u8
     ensures { result ≡ in_line last m }
 {
     let keep = m % 2 + m / 8 % 2 * 8;
-    if last {
-        return keep + 2;
-    }
-    keep
+    if last { keep + 2 } else { keep }
 }

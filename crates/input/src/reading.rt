@@ -17,12 +17,9 @@ pub fn first_line(i: Input, marks: &[u8], n: usize) -> Line
     requires { Within i (length marks.now) }
     ensures { TellsLine i marks.now n result }
 {
-    let q = i.queue;
-    let ready = i.ready;
-    let most = queue::least(n, ready);
-    let mut k = 0;
-    while k < most {
-        let m = q.at(marks, k);
+    let most = n.min(i.ready);
+    for k in 0..most {
+        let m = i.queue.at(marks, k);
         if super::is_mark(m) {
             return Line {
                 count: k,
@@ -35,18 +32,17 @@ pub fn first_line(i: Input, marks: &[u8], n: usize) -> Line
                 taken: k + 1,
             };
         }
-        k += 1;
     }
-    if k < ready {
-        let m = q.at(marks, k);
-        if super::is_mark(m) {
-            return Line {
-                count: k,
-                taken: k + 1, // 'Taking the last byte before a mark takes the mark.'
-            };
-        }
+    if most < i.ready && super::is_mark(i.queue.at(marks, most)) {
+        return Line {
+            count: most,
+            taken: most + 1, // 'Taking the last byte before a mark takes the mark.'
+        };
     }
-    Line { count: k, taken: k }
+    Line {
+        count: most,
+        taken: most,
+    }
 }
 
 // What a read leaves, and how many bytes it gave.

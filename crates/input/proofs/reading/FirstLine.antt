@@ -1,6 +1,5 @@
 -- Where the first line ends. Assumes nothing.
-use mathlib.Core.Path.{◌≡◌, refl, sym, ap, ◌∙◌}
-use mathlib.Core.Logic.{⊎_elim}
+use mathlib.Core.Path.{◌≡◌, refl, ap, ◌∙◌}
 use mathlib.Core.Bool.{Bool, true, false}
 use mathlib.Core.List.{List, [], ◌∷◌}
 use Prim.Native.Nat.{ℕ, zero, suc, ◌+◌, ◌-◌, ◌/◌, ◌%◌, ◌<◌, ◌≤◌, min}
@@ -9,8 +8,8 @@ use native.Mathlib.Omega.{arith}
 use lib.ListN.{length, get_or, take, drop, length-take, length-drop, length-map}
 use lib.Seq.{get_or-take, get_or-drop}
 use lib.Dec.{eqb}
+use borrow.Author.Count.{below_more}
 use Rattle.queue.specs.Queue.{held}
-use Rattle.queue.proofs.Rings.{lt_or_le}
 use Rattle.queue.proofs.Laws.{held_length}
 use Rattle.rules.specs.Sizes.{Place}
 use Rattle.rules.specs.Reads.{first_line, first_bytes}
@@ -22,26 +21,19 @@ use Rattle.input.specs.reading.Contract.{Splits, TellsLine}
 abbrev pub nowhere : Place
 nowhere = place_of 0 0
 
+-- whether place k is an end-of-file mark, and whether a line ends with it
+abbrev pub marked : List ℕ → ℕ → Bool
+marked ys k = eqb (get_or ys k 0 / 4 % 2) 1
+
+abbrev pub ending : List ℕ → ℕ → Bool
+ending ys k = eqb (get_or ys k 0 / 2 % 2) 1
+
 -- the first k mark bytes: no end-of-file mark, no end of a line
 abbrev pub Plain : List ℕ → ℕ → Type 0
-Plain ys k = (j : ℕ) → j < k → (eqb (get_or ys j 0 / 4 % 2) 1 ≡ false) × (eqb (get_or ys j 0 / 2 % 2) 1 ≡ false)
+Plain ys k = (j : ℕ) → j < k → (marked ys j ≡ false) × (ending ys j ≡ false)
 
-pub plain_none : (ys : List ℕ) → Plain ys 0
-plain_none ys j lt = absurd (omega arith)
-
-pub plain_next : (ys : List ℕ) (k m : ℕ) (s t : Bool) → Plain ys k → m ≡ get_or ys k 0 → s ≡ eqb (m / 4 % 2) 1 → s ≡ false
-    → t ≡ eqb (m / 2 % 2) 1 → t ≡ false → Plain ys (k + 1)
-plain_next ys k m s t p em es s0 et t0 j lt =
-    ⊎_elim (λ (w : j < k). p j w)
-    (λ (w : k ≤ j).
-    let e : get_or ys j 0 ≡ m = ap (λ (x : ℕ). get_or ys x 0) (same w) ∙ sym em in (
-      ap (λ (x : ℕ). eqb (x / 4 % 2) 1) e ∙ sym es ∙ s0,
-      ap (λ (x : ℕ). eqb (x / 2 % 2) 1) e ∙ sym et ∙ t0,
-    ))
-    (lt_or_le j k)
-  where
-    same : k ≤ j → j ≡ k
-    same w = omega arith
+pub plain_next : (ys : List ℕ) (k : ℕ) → Plain ys k → marked ys k ≡ false → ending ys k ≡ false → Plain ys (k + 1)
+plain_next ys k plain m e = below_more (λ j. (marked ys j ≡ false) × (ending ys j ≡ false)) k plain (m, e)
 
 -- the same of places
 abbrev PlainPlaces : List Place → ℕ → Type 0
@@ -162,31 +154,27 @@ module _ (i : Input) (ms : List ℕ) (n k : ℕ) (h : Within i (length ms)) (le 
     goes_on c t s =
         splits_on k n c t (get i bs ms).finished (omega arith) (omega (arith, finished_length i bs ms e within)) plain_places s
 
-  module _ (m : ℕ) (t : Bool) (em : m ≡ get_or (held i.queue ms) k 0) (et : t ≡ eqb (m / 4 % 2) 1) where
-    mark_here : (bs : List ℕ) → length bs ≡ length ms → k < i.ready → (get_or (drop k (get i bs ms).finished) 0 nowhere).mark ≡ t
-    mark_here bs e lt = ap (λ (x : Place). x.mark) (here bs e lt) ∙ ap (λ (x : ℕ). eqb (x / 4 % 2) 1) (sym em) ∙ sym et
+  pub line_at_mark : k < i.ready → marked (held i.queue ms) k ≡ true → TellsLine i ms n (record { count = k; taken = k + 1 })
+  line_at_mark lt m bs e = (
+    rw add-zero at (goes_on bs e 0 1
+        (at_mark (n - k) (drop k (get i bs ms).finished) (omega (arith, left_length bs e)) (ap (λ (x : Place). x.mark) (here bs e lt) ∙ m))),
+    omega arith,
+  )
 
-    pub line_at_mark : k < i.ready → t ≡ true → TellsLine i ms n (record { count = k; taken = k + 1 })
-    line_at_mark lt tt bs e = (
-      rw add-zero at (goes_on bs e 0 1
-          (at_mark (n - k) (drop k (get i bs ms).finished) (omega (arith, left_length bs e)) (mark_here bs e lt ∙ tt))),
-      omega arith,
-    )
+  pub line_at_end : k < n → k < i.ready → marked (held i.queue ms) k ≡ false → ending (held i.queue ms) k ≡ true
+      → TellsLine i ms n (record { count = k + 1; taken = k + 1 })
+  line_at_end kn lt m s bs e = (
+    goes_on bs e 1 1
+        (at_end_lem (n - k) (drop k (get i bs ms).finished) (omega arith) (omega (arith, left_length bs e)) (ap (λ (x : Place). x.mark) (here bs e lt) ∙ m)
+        (ap (λ (x : Place). x.ends) (here bs e lt) ∙ s)),
+    omega arith,
+  )
 
-    pub line_at_end : (s : Bool) → k < n → k < i.ready → t ≡ false → s ≡ eqb (m / 2 % 2) 1 → s ≡ true
-        → TellsLine i ms n (record { count = k + 1; taken = k + 1 })
-    line_at_end s kn lt tf es st bs e = (
-      goes_on bs e 1 1
-          (at_end_lem (n - k) (drop k (get i bs ms).finished) (omega arith) (omega (arith, left_length bs e)) (mark_here bs e lt ∙ tf)
-          (ap (λ (x : Place). x.ends) (here bs e lt) ∙ ap (λ (x : ℕ). eqb (x / 2 % 2) 1) (sym em) ∙ sym es ∙ st)),
-      omega arith,
-    )
-
-    pub line_at_stop : min n i.ready ≤ k → k < i.ready → t ≡ false → TellsLine i ms n (record { count = k; taken = k })
-    line_at_stop full lt tf bs e = (
-      rw add-zero at (goes_on bs e 0 0 (at_stop (n - k) (drop k (get i bs ms).finished) (omega arith) (mark_here bs e lt ∙ tf))),
-      omega arith,
-    )
+  pub line_at_stop : min n i.ready ≤ k → k < i.ready → marked (held i.queue ms) k ≡ false → TellsLine i ms n (record { count = k; taken = k })
+  line_at_stop full lt m bs e = (
+    rw add-zero at (goes_on bs e 0 0 (at_stop (n - k) (drop k (get i bs ms).finished) (omega arith) (ap (λ (x : Place). x.mark) (here bs e lt) ∙ m))),
+    omega arith,
+  )
 
   pub line_at_last : i.ready ≤ k → TellsLine i ms n (record { count = k; taken = k })
   line_at_last last bs e = (

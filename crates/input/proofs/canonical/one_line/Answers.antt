@@ -1,25 +1,15 @@
 -- `input::canonical::one_line` meets its contract. Assumes nothing.
-use native.Mathlib.Omega.{arith}
 use Rattle.input.proofs.canonical.GoesOn.{line_begin, line_next, line_end}
 use Rattle.input.proofs.canonical.one_line.Goals as goal
 
 pub loop-k-init : goal.loop-k-init
 loop-k-init c = line_begin c.args.i c.args.marks.now c.requires
 
-pub overflow_add-k : goal.overflow_add-k
-overflow_add-k c = omega arith
-
-pub overflow_add-k-in-loop-k : goal.overflow_add-k-in-loop-k
-overflow_add-k-in-loop-k c = omega arith
-
-pub loop-k-smaller : goal.loop-k-smaller
-loop-k-smaller c = omega arith
-
 pub loop-k-preserved : goal.loop-k-preserved
 loop-k-preserved c =
     let at-change = c.change in
     let at-in-line = c.in_line-joined in
-    let at_at = c.at-m in
+    let at_at = c.at in
     let at-loop-test = c.loop-k-test in
     let loop = c.loop-k in
     line_next c.args.i c.args.marks.now c.requires loop.k at_at.result at-in-line.result loop.marks at-change.new.ring loop.invariant

@@ -15,12 +15,6 @@ overflow_add-kept c =
     let at-loop = c.loop-k in
     omega (arith, at-loop.invariant.few, at-loop-test.true)
 
-pub overflow_add-k : goal.overflow_add-k
-overflow_add-k c = omega arith
-
-pub loop-k-smaller : goal.loop-k-smaller
-loop-k-smaller c = omega arith
-
 pub loop-k-preserved : goal.loop-k-preserved
 loop-k-preserved c =
     let bs = c.args.bytes.now in
