@@ -27,11 +27,11 @@ fn finish(p: Port, i: Input, bytes: &[u8], marks: &[u8], dst: &mut [u8]) -> Answ
     let x = p.settings;
     if x.icanon {
         let taken = reading::read_line(i, bytes, marks, dst);
-        let left = taken.input;
+        let left = taken.rest;
         return port::says(with_read(p, left, Waiting::Idle), Outcome::Ok, taken.count);
     }
     let taken = reading::read_bytes(i, bytes, dst);
-    let left = taken.input;
+    let left = taken.rest;
     port::says(with_read(p, left, Waiting::Idle), Outcome::Ok, taken.count)
 }
 

@@ -4,6 +4,7 @@ ghost use Rattle.input.specs.Contract.{Within, Sound};
 ghost use Rattle.input.specs.reading.Contract.{TellsLine, ReadsLine, ReadsBytes, Gives, Given};
 
 use super::Input;
+use queue::Counted;
 
 // The bytes of the first line that a read gives, and the places that it takes: a mark is a place and no byte.
 #[derive(Clone, Copy)]
@@ -45,34 +46,22 @@ pub fn first_line(i: Input, marks: &[u8], n: usize) -> Line
     }
 }
 
-// What a read leaves, and how many bytes it gave.
-#[derive(Clone, Copy)]
-pub struct Taken {
-    pub input: Input,
-    pub count: usize,
-}
-
 // count bytes into dst; the oldest `taken` places are gone
-fn give(i: Input, bytes: &[u8], dst: &mut [u8], count: usize, taken: usize) -> Taken
+fn give(i: Input, bytes: &[u8], dst: &mut [u8], count: usize, taken: usize) -> Counted<Input>
     requires { Gives i bytes.now dst.old count taken }
     ensures { Given i bytes.now dst.old count taken result dst.new }
 {
-    let q = i.queue;
-    q.take(bytes, &mut dst[..count]);
-    let queue = q.drop_oldest(bytes, taken);
-    let input = Input {
-        queue: queue,
+    i.queue.take(bytes, &mut dst[..count]);
+    let rest = Input {
+        queue: i.queue.drop_oldest(bytes, taken),
         ready: i.ready - taken,
-        literal: i.literal,
+        ..i
     };
-    Taken {
-        input: input,
-        count: count,
-    }
+    Counted { rest, count }
 }
 
 // the first line, as much of it as dst has room for
-pub fn read_line(i: Input, bytes: &[u8], marks: &[u8], dst: &mut [u8]) -> Taken
+pub fn read_line(i: Input, bytes: &[u8], marks: &[u8], dst: &mut [u8]) -> Counted<Input>
     requires { Sound i bytes.now marks.now }
     ensures { ReadsLine i bytes.now marks.now dst.old result dst.new }
 {
@@ -81,10 +70,10 @@ pub fn read_line(i: Input, bytes: &[u8], marks: &[u8], dst: &mut [u8]) -> Taken
 }
 
 // 'A done read takes min(n, stored).'
-pub fn read_bytes(i: Input, bytes: &[u8], dst: &mut [u8]) -> Taken
+pub fn read_bytes(i: Input, bytes: &[u8], dst: &mut [u8]) -> Counted<Input>
     requires { Within i (length bytes.now) }
     ensures { ReadsBytes i bytes.now dst.old result dst.new }
 {
-    let k = queue::least(dst.len(), i.ready);
+    let k = dst.len().min(i.ready);
     give(i, bytes, dst, k, k)
 }

@@ -15,7 +15,7 @@ use Rattle.rules.specs.Reads as rule
 use Rattle.input.specs.Contract as input
 use Rattle.input.specs.declared.Input.{Input}
 use Rattle.input.specs.reading.Contract as reading
-use Rattle.input.specs.declared.reading.Taken.{Taken}
+use Rattle.queue.specs.declared.Counted.{Counted}
 use Rattle.port.specs.State.{get, capacity, place_bytes, place_marks}
 use Rattle.port.specs.Sending.{refused}
 use Rattle.port.specs.declared.Port.{Port}
@@ -75,8 +75,8 @@ module _ (p : Port) (i : Input) (bs ms d : List ℕ) (h : input.Sound i bs ms) w
       }
 
   -- a part is given
-  given : (t : rule.Part) (k : Taken) (q : Port) (r : Answered) (d' : List ℕ) → reading.ReadsPart i bs ms d t k d'
-      → q ≡ assembled p k.input p.output Idle
+  given : (t : rule.Part) (k : Counted Input) (q : Port) (r : Answered) (d' : List ℕ) → reading.ReadsPart i bs ms d t k d'
+      → q ≡ assembled p k.rest p.output Idle
       → r ≡ record { port = q; answer = record { outcome = Ok; count = k.count } } → ReadsFrom p i bs ms d (rule.finish s t) r d'
   given t k q r d' b eq er =
       record {
@@ -85,15 +85,15 @@ module _ (p : Port) (i : Input) (bs ms d : List ℕ) (h : input.Sound i bs ms) w
         port = ap (λ (y : Answered). y.port) er ∙ eq ∙ ap (λ (y : Input). assembled p y p.output Idle) b.input;
       }
 
-  pub line_given : (k : Taken) (q : Port) (r : Answered) (d' : List ℕ) → p.settings.icanon ≡ true → reading.ReadsLine i bs ms d k d'
-      → q ≡ assembled p k.input p.output Idle → r ≡ record { port = q; answer = record { outcome = Ok; count = k.count } }
+  pub line_given : (k : Counted Input) (q : Port) (r : Answered) (d' : List ℕ) → p.settings.icanon ≡ true → reading.ReadsLine i bs ms d k d'
+      → q ≡ assembled p k.rest p.output Idle → r ≡ record { port = q; answer = record { outcome = Ok; count = k.count } }
       → ReadsFrom p i bs ms d (rule.finish s (rule.part_of p.settings.icanon (length d) (input.get i bs ms).finished)) r d'
   line_given k q r d' c b eq er =
       as_read p i bs ms d r d' (ap (λ (y : Bool). rule.finish s (rule.part_of y (length d) (input.get i bs ms).finished)) (sym c))
       (given (rule.first_line (length d) (input.get i bs ms).finished) k q r d' b eq er)
 
-  pub bytes_given : (k : Taken) (q : Port) (r : Answered) (d' : List ℕ) → p.settings.icanon ≡ false → reading.ReadsBytes i bs d k d'
-      → q ≡ assembled p k.input p.output Idle → r ≡ record { port = q; answer = record { outcome = Ok; count = k.count } }
+  pub bytes_given : (k : Counted Input) (q : Port) (r : Answered) (d' : List ℕ) → p.settings.icanon ≡ false → reading.ReadsBytes i bs d k d'
+      → q ≡ assembled p k.rest p.output Idle → r ≡ record { port = q; answer = record { outcome = Ok; count = k.count } }
       → ReadsFrom p i bs ms d (rule.finish s (rule.part_of p.settings.icanon (length d) (input.get i bs ms).finished)) r d'
   bytes_given k q r d' c b eq er =
       as_read p i bs ms d r d' (ap (λ (y : Bool). rule.finish s (rule.part_of y (length d) (input.get i bs ms).finished)) (sym c))

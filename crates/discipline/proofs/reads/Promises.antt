@@ -63,17 +63,17 @@ module _ (p : Port) (i : Input) (bs ms d : List ℕ) (h : input.Sound i bs ms) w
       ((i.queue.head + reading.gone (input.get i bs ms) (reading.leaves (input.get i bs ms) t.left)) % length bs)
 
   reads_part : (t : rule.Part)
-      → reading.ReadsPart i bs ms d t (record { input = behind t; count = length t.bytes }) (t.bytes ++ drop (length t.bytes) d)
+      → reading.ReadsPart i bs ms d t (record { rest = behind t; count = length t.bytes }) (t.bytes ++ drop (length t.bytes) d)
   reads_part t = record { count = refl; input = refl; buffer = refl }
 
   part_left : (c : Bool)
       → input.get (behind (rule.part_of c (length d) finished)) bs ms ≡ reading.leaves (input.get i bs ms) (rule.part_of c (length d) finished).left
   part_left true =
       let t : rule.Part = rule.first_line (length d) finished in
-      (line_after i bs ms h d (record { input = behind t; count = length t.bytes }) (t.bytes ++ drop (length t.bytes) d) (reads_part t)).meaning
+      (line_after i bs ms h d (record { rest = behind t; count = length t.bytes }) (t.bytes ++ drop (length t.bytes) d) (reads_part t)).meaning
   part_left false =
       let t : rule.Part = rule.first_bytes (length d) finished in
-      (bytes_after i bs ms h d (record { input = behind t; count = length t.bytes }) (t.bytes ++ drop (length t.bytes) d) (reads_part t)).meaning
+      (bytes_after i bs ms h d (record { rest = behind t; count = length t.bytes }) (t.bytes ++ drop (length t.bytes) d) (reads_part t)).meaning
 
   part_fine : Fine p i bs ms (rule.finish s (rule.part_of p.settings.icanon (length d) finished))
   part_fine =

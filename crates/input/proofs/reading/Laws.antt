@@ -20,7 +20,7 @@ use Rattle.input.specs.Contract.{places, all, get, put, Within, Sound}
 use Rattle.input.specs.declared.Input.{Input}
 use Rattle.input.proofs.Laws.{stored_all, used_of, finished_length, current_length, get_of, After, numbers_are, held_both, literal_same}
 use Rattle.input.specs.reading.Contract.{Splits, TellsLine, leaves, gone, ReadsPart, ReadsLine, ReadsBytes, Gives, Given}
-use Rattle.input.specs.declared.reading.Taken.{Taken}
+use Rattle.queue.specs.declared.Counted.{Counted}
 use Rattle.input.specs.declared.reading.Line.{Line}
 use Rattle.input.proofs.reading.FirstLine.{line_splits}
 
@@ -114,7 +114,7 @@ module _ (i : Input) (bs ms : List ℕ) (h : Sound i bs ms) where
         numbers_are _ _ _ _ _ _ _ _ (ap (λ (x : ℕ). (i.queue.head + x) % length bs) (sym gone_is)) (sym used_left) (sym left_count)
         (sym (literal_same i bs ms))
 
-    given_reads : (d : List ℕ) (r : Taken) (d' : List ℕ) → Given i bs d k t r d' → ReadsPart i bs ms d p r d'
+    given_reads : (d : List ℕ) (r : Counted Input) (d' : List ℕ) → Given i bs d k t r d' → ReadsPart i bs ms d p r d'
     given_reads d r d' g =
         record {
           count = g.count ∙ sym given_count;
@@ -126,17 +126,17 @@ module _ (i : Input) (bs ms : List ℕ) (h : Sound i bs ms) where
         }
 
     -- what is held after the read: what the part leaves
-    reads_after : (d : List ℕ) (r : Taken) (d' : List ℕ) → ReadsPart i bs ms d p r d'
-        → After (leaves (get i bs ms) p.left) bs ms r.input bs ms
+    reads_after : (d : List ℕ) (r : Counted Input) (d' : List ℕ) → ReadsPart i bs ms d p r d'
+        → After (leaves (get i bs ms) p.left) bs ms r.rest bs ms
     unfolding all
     reads_after d r d' g =
         let N : ℕ = length bs in
         let w : Ruled = leaves (get i bs ms) p.left in
         let e = g.input ∙ sym left_numbers in
         let le : t ≤ i.queue.len = omega (arith, few, h.within.ready) in
-        let hb : held r.input.queue bs ≡ drop t (held i.queue bs) =
+        let hb : held r.rest.queue bs ≡ drop t (held i.queue bs) =
         ap (λ (x : Input). held x.queue bs) e ∙ held_later i.queue bs t le h.within.len in
-        let hm : held r.input.queue ms ≡ drop t (held i.queue ms) =
+        let hm : held r.rest.queue ms ≡ drop t (held i.queue ms) =
         ap (λ (x : Input). held x.queue ms) e
         ∙ ap (λ (x : ℕ). held (record { head = (i.queue.head + t) % x; len = i.queue.len - t }) ms) h.same
         ∙ held_later i.queue ms t le (rw (← h.same) h.within.len) in
@@ -146,8 +146,8 @@ module _ (i : Input) (bs ms : List ℕ) (h : Sound i bs ms) where
         ∙ ap (λ (l : List Place). l ++ reverse (get i bs ms).current) (sym s.left) in
         record {
           meaning =
-              get_of r.input bs ms w
-              (ap (λ (l : List ℕ). places l (held r.input.queue ms)) hb
+              get_of r.rest bs ms w
+              (ap (λ (l : List ℕ). places l (held r.rest.queue ms)) hb
               ∙ ap (places (drop t (held i.queue bs))) hm
               ∙ places_drop t (held i.queue bs) (held i.queue ms) held_same
               ∙ kept)
@@ -160,14 +160,14 @@ module _ (i : Input) (bs ms : List ℕ) (h : Sound i bs ms) where
         }
 
   -- a read of a line, of bytes
-  pub line_after : (d : List ℕ) (r : Taken) (d' : List ℕ) → ReadsLine i bs ms d r d'
-      → After (leaves (get i bs ms) (first_line (length d) (get i bs ms).finished).left) bs ms r.input bs ms
+  pub line_after : (d : List ℕ) (r : Counted Input) (d' : List ℕ) → ReadsLine i bs ms d r d'
+      → After (leaves (get i bs ms) (first_line (length d) (get i bs ms).finished).left) bs ms r.rest bs ms
   line_after d r d' g =
       let s = line_splits (length d) (get i bs ms).finished in
       reads_after (first_line (length d) (get i bs ms).finished) s.0 s.1 s.2 d r d' g
 
-  pub bytes_after : (d : List ℕ) (r : Taken) (d' : List ℕ) → ReadsPart i bs ms d (first_bytes (length d) (get i bs ms).finished) r d'
-      → After (leaves (get i bs ms) (first_bytes (length d) (get i bs ms).finished).left) bs ms r.input bs ms
+  pub bytes_after : (d : List ℕ) (r : Counted Input) (d' : List ℕ) → ReadsPart i bs ms d (first_bytes (length d) (get i bs ms).finished) r d'
+      → After (leaves (get i bs ms) (first_bytes (length d) (get i bs ms).finished).left) bs ms r.rest bs ms
   bytes_after d r d' g =
       let ps : List Place = (get i bs ms).finished in
       let k : ℕ = min (length d) (length ps) in
@@ -184,7 +184,7 @@ module _ (i : Input) (bs ms : List ℕ) (h : Sound i bs ms) where
         room = s.1;
       }
 
-  module _ (d d' : List ℕ) (r : Taken) where
+  module _ (d d' : List ℕ) (r : Counted Input) where
     pub line_reads : (l : Line) → TellsLine i ms (length d) l → Given i bs d l.count l.taken r d' → ReadsLine i bs ms d r d'
     line_reads l tells g =
         given_reads (first_line (length d) (get i bs ms).finished) l.count l.taken (tells bs h.same).0 d r d' g
@@ -197,20 +197,20 @@ module _ (i : Input) (bs ms : List ℕ) (h : Sound i bs ms) where
         given_reads (first_bytes (length d) ps) (min (length d) (length ps)) (min (length d) (length ps)) (bytes_splits (length d) ps) d r d'
         (rw (← e) g)
 
-pub bytes_reads : (i : Input) (bs d : List ℕ) (k : ℕ) (r : Taken) (d' : List ℕ) → Within i (length bs) → k ≡ min (length d) i.ready
+pub bytes_reads : (i : Input) (bs d : List ℕ) (k : ℕ) (r : Counted Input) (d' : List ℕ) → Within i (length bs) → k ≡ min (length d) i.ready
     → Given i bs d k k r d' → ReadsBytes i bs d r d'
 bytes_reads i bs d k r d' h ek g ms e = bytes_read i bs ms (record { same = e; within = h }) d d' r k ek g
 
 -- no second result fits
-pub one_read : {i : Input} {bs ms d : List ℕ} {p : Part} {r s : Taken} {d' e' : List ℕ}
+pub one_read : {i : Input} {bs ms d : List ℕ} {p : Part} {r s : Counted Input} {d' e' : List ℕ}
     → ReadsPart i bs ms d p r d' → ReadsPart i bs ms d p s e' → (r ≡ s) × (d' ≡ e')
 one_read {r = r} {s = s} h k =
-    (taken_is r.input s.input r.count s.count (h.input ∙ sym k.input) (h.count ∙ sym k.count), h.buffer ∙ sym k.buffer)
+    (taken_is r.rest s.rest r.count s.count (h.input ∙ sym k.input) (h.count ∙ sym k.count), h.buffer ∙ sym k.buffer)
   where
-    taken_is : (i j : Input) (n m : ℕ) → i ≡ j → n ≡ m → ◌≡◌ {A = Taken} (record { input = i; count = n }) (record { input = j; count = m })
+    taken_is : (i j : Input) (n m : ℕ) → i ≡ j → n ≡ m → ◌≡◌ {A = Counted Input} (record { rest = i; count = n }) (record { rest = j; count = m })
     taken_is i j n m ei en = cc
 
-pub one_read_bytes : {i : Input} {bs d : List ℕ} {r s : Taken} {d' e' : List ℕ} → ReadsBytes i bs d r d' → ReadsBytes i bs d s e'
+pub one_read_bytes : {i : Input} {bs d : List ℕ} {r s : Counted Input} {d' e' : List ℕ} → ReadsBytes i bs d r d' → ReadsBytes i bs d s e'
     → (r ≡ s) × (d' ≡ e')
 one_read_bytes {bs = bs} h k = one_read (h bs refl) (k bs refl)
 
@@ -242,7 +242,7 @@ part_filled l d d' k ld ll e =
 pub given_of_lem : (i : Input) (bs d : List ℕ) (k t : ℕ) (q : Queue) (f : Counted Queue) (d' : List ℕ) → Gives i bs d k t
     → Takes i.queue bs (take k d) f d'
     → q ≡ record { head = (i.queue.head + min t (min i.queue.len (length bs))) % length bs; len = min i.queue.len (length bs) - t }
-    → Given i bs d k t (record { input = record { queue = q; ready = i.ready - t; literal = i.literal }; count = k }) (d' ++ drop k d)
+    → Given i bs d k t (record { rest = record { queue = q; ready = i.ready - t; literal = i.literal }; count = k }) (d' ++ drop k d)
 given_of_lem i bs d k t q f d' h g eq =
     let later = queue_later i.queue.head i.queue.len (length bs) t q h.within.len (omega (arith, h.finished, h.within.ready)) eq in
     let few : k ≤ length (held i.queue bs) =

@@ -6,7 +6,7 @@ use Rattle.input.specs.declared.Input.{Input}
 use Rattle.input.specs.Contract.{get, put, Within}
 use Rattle.input.specs.declared.reading.Line.{Line}
 use Rattle.queue.specs.Queue.{held}
-use Rattle.input.specs.declared.reading.Taken.{Taken}
+use Rattle.queue.specs.declared.Counted.{Counted}
 
 -- the part p of the places ps: the bytes of the first `count`, without the first `taken`
 pub record Splits (p : Part) (ps : List Place) (count taken : ℕ) : Type 0 where
@@ -36,18 +36,18 @@ gone g w = used g - used w
 
 -- After a read of the part p the input is what p leaves, its oldest place behind the places that are gone; the bytes of p
 -- stand first in the buffer, and behind them it is as it was.
-pub record ReadsPart (i : Input) (bs ms d : List ℕ) (p : Part) (r : Taken) (d' : List ℕ) : Type 0 where
+pub record ReadsPart (i : Input) (bs ms d : List ℕ) (p : Part) (r : Counted Input) (d' : List ℕ) : Type 0 where
   pub count : r.count ≡ length p.bytes
   pub input :
-      r.input
+      r.rest
       ≡ put (leaves (get i bs ms) p.left) ((i.queue.head + gone (get i bs ms) (leaves (get i bs ms) p.left)) % length bs)
   pub buffer : d' ≡ p.bytes ++ drop (length p.bytes) d
 
-abbrev pub ReadsLine : Input → List ℕ → List ℕ → List ℕ → Taken → List ℕ → Type 0
+abbrev pub ReadsLine : Input → List ℕ → List ℕ → List ℕ → Counted Input → List ℕ → Type 0
 ReadsLine i bs ms d r d' = ReadsPart i bs ms d (first_line (length d) (get i bs ms).finished) r d'
 
 -- Marks play no part in it.
-abbrev pub ReadsBytes : Input → List ℕ → List ℕ → Taken → List ℕ → Type 0
+abbrev pub ReadsBytes : Input → List ℕ → List ℕ → Counted Input → List ℕ → Type 0
 ReadsBytes i bs d r d' =
     (ms : List ℕ) → length bs ≡ length ms → ReadsPart i bs ms d (first_bytes (length d) (get i bs ms).finished) r d'
 
@@ -58,10 +58,10 @@ pub record Gives (i : Input) (bs d : List ℕ) (count taken : ℕ) : Type 0 wher
   pub finished : taken ≤ i.ready
   pub room : count ≤ length d
 
-pub record Given (i : Input) (bs d : List ℕ) (k taken : ℕ) (r : Taken) (d' : List ℕ) : Type 0 where
+pub record Given (i : Input) (bs d : List ℕ) (k taken : ℕ) (r : Counted Input) (d' : List ℕ) : Type 0 where
   pub count : r.count ≡ k
   pub input :
-      r.input
+      r.rest
       ≡ record {
         queue = record { head = (i.queue.head + taken) % length bs; len = i.queue.len - taken };
         ready = i.ready - taken;

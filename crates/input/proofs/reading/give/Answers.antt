@@ -9,5 +9,5 @@ slice_bounds-take-end-2 c =
 pub returns : goal.returns
 returns c =
     let at_take = c.take in
-    given_of_lem c.args.i c.args.bytes.now c.args.dst.now c.args.count c.args.taken c.drop_oldest-queue.result at_take.result
-    at_take.new.dst c.requires at_take.ensures c.drop_oldest-queue.ensures
+    given_of_lem c.args.i c.args.bytes.now c.args.dst.now c.args.count c.args.taken c.drop_oldest.result at_take.result
+    at_take.new.dst c.requires at_take.ensures c.drop_oldest.ensures
