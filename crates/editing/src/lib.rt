@@ -4,6 +4,7 @@
 #![tactic(auto)]
 
 mod classes;
+mod line;
 pub mod reprinting;
 pub mod words;
 

@@ -3,7 +3,6 @@ use mathlib.Core.Path.{◌≡◌, refl, sym, ap, ◌∙◌}
 use mathlib.Core.Bool.{Bool, true, false, not, ◌||◌, cond, false≢true}
 use mathlib.Core.List.{List, [], ◌∷◌}
 use Prim.Native.Nat.{ℕ, suc, ◌+◌, ◌-◌, ◌<◌, ◌≤◌, min}
-use native.Mathlib.Numerals.{add-one}
 use native.Mathlib.Omega.{arith}
 use lib.ListN.{length, get_or, take, drop, length-take, length-drop}
 use lib.Seq.{drop-drop}
@@ -12,20 +11,32 @@ use borrow.Author.Tests.{eqb-true}
 use Rattle.queue.specs.Queue.{held}
 use Rattle.rules.specs.Sizes.{Place}
 use Rattle.rules.specs.Classes.{is_blank, is_letter, is_control, class_of}
-use Rattle.rules.specs.Editing.{units, single, blank, letter, same_class, trailing, word, one_class, alternate_word}
+use Rattle.rules.specs.Editing.{units, blank, letter, same_class, trailing, word, one_class, alternate_word}
 use Rattle.rules.specs.declared.Class.{Class}
+use Rattle.rules.specs.contracts.Class.{the_type}
+use denote.Enum.Bare.{sameb}
 use Rattle.rules.specs.declared.Class.TheVariants.{Blank, Letter, Control, Other}
 use Rattle.input.specs.Contract.{all, get, Within}
 use Rattle.input.specs.declared.Input.{Input}
-use Rattle.editing.specs.Contract.{place_at, places_in, units_to, Starts, Cuts, Removes}
+use Rattle.editing.specs.Contract.{places_in, units_to, Starts, Cuts, Removes}
 use Rattle.editing.specs.declared.Run.{Run}
-use Rattle.editing.specs.declared.words.Test.{Test}
-use Rattle.editing.specs.declared.words.Test.TheVariants.{Blanks, NonBlanks, Letters, Others}
-use Rattle.editing.specs.words.Contract.{blank_class, letter_class, test_of, passes_of}
-use Rattle.editing.proofs.Laws.{removes_of, place_one}
+use Rattle.editing.specs.words.Contract.{unit_class}
+use Rattle.editing.proofs.Laws.{removes_of, place_one, within_both}
 use Rattle.input.proofs.Laws.{all_long}
 
----- passes_at
+---- The classes of units
+
+abbrev pub blank_class : Class → Bool
+blank_class Blank = true
+blank_class Letter = false
+blank_class Control = false
+blank_class Other = false
+
+abbrev pub letter_class : Class → Bool
+letter_class Blank = false
+letter_class Letter = true
+letter_class Control = false
+letter_class Other = false
 
 blank_class_lem : (b : ℕ) → blank_class (class_of b) ≡ is_blank b
 blank_class_lem b = go (is_blank b) (is_letter b) (is_control b)
@@ -54,66 +65,73 @@ letter_class_lem b = go (is_blank b) refl (is_letter b) refl (is_control b)
     go false et false el true = refl
     go false et false el false = refl
 
-passes_test : (t : Test) (u : List Place) → passes_of t (blank u) (letter u) ≡ test_of t u
-passes_test Blanks u = refl
-passes_test NonBlanks u = refl
-passes_test Letters u = refl
-passes_test Others u = refl
+pub blank_unit : (u : List Place) → blank_class (unit_class u) ≡ blank u
+blank_unit [] = refl
+blank_unit (p ∷ []) = blank_class_lem p.byte
+blank_unit (p ∷ q ∷ u) = refl
 
-module _ (i : Input) (bs : List ℕ) (start end : ℕ) (t : Test) (r : Bool) (h : Within i (length bs)) (lt : start < end) (le : end ≤ i.queue.len) where
-  passes_by : (l m : Bool) → r ≡ passes_of t l m
-      → ((ms : List ℕ) → length bs ≡ length ms → (l ≡ blank (places_in i bs ms start end)) × (m ≡ letter (places_in i bs ms start end)))
-      → (ms : List ℕ) → length bs ≡ length ms → r ≡ test_of t (places_in i bs ms start end)
-  passes_by l m er is ms e =
-      let u : List Place = places_in i bs ms start end in
-      er
-      ∙ ap (λ (x : Bool). passes_of t x m) (is ms e).0
-      ∙ ap (passes_of t (blank u)) (is ms e).1
-      ∙ passes_test t u
+pub letter_unit : (u : List Place) → letter_class (unit_class u) ≡ letter u
+letter_unit [] = refl
+letter_unit (p ∷ []) = letter_class_lem p.byte
+letter_unit (p ∷ q ∷ u) = refl
 
+-- a class that was compared
+pub asked_letter : (u : List Place) (k : Class) (r : Bool) → r ≡ sameb the_type k Letter → k ≡ unit_class u → r ≡ letter u
+asked_letter u k r er ek = er ∙ same k ∙ ap letter_class ek ∙ letter_unit u
+  where
+    same : (k : Class) → sameb the_type k Letter ≡ letter_class k
+    same Blank = refl
+    same Letter = refl
+    same Control = refl
+    same Other = refl
+
+module _ (i : Input) (bs ms : List ℕ) (start end : ℕ) (e : length bs ≡ length ms) (h : Within i (length ms)) (le : end ≤ i.queue.len) where
   -- a unit of one byte
-  pub passes_single : (b : ℕ) (c : Class) (l m : Bool) → b ≡ get_or (held i.queue bs) start 0 → c ≡ class_of b → l ≡ blank_class c → m ≡ letter_class c
-      → start + 1 ≡ end → r ≡ passes_of t l m → (ms : List ℕ) → length bs ≡ length ms → r ≡ test_of t (places_in i bs ms start end)
-  passes_single b c l m eb ec el em es er =
-      passes_by l m er
-      (λ ms e.
-      let u : places_in i bs ms start end ≡ place_at i bs ms start ∷ [] =
-      ap (places_in i bs ms start) (sym es ∙ add-one start) ∙ place_one i bs ms e (rw (← e) h) start (omega arith) in (
-        el ∙ ap blank_class (ec ∙ ap class_of eb) ∙ blank_class_lem (get_or (held i.queue bs) start 0) ∙ sym (ap blank u),
-        em ∙ ap letter_class (ec ∙ ap class_of eb) ∙ letter_class_lem (get_or (held i.queue bs) start 0) ∙ sym (ap letter u),
-      ))
+  pub class_single : start < end → end ≤ start + 1 → class_of (get_or (held i.queue bs) start 0) ≡ unit_class (places_in i bs ms start end)
+  class_single lt one =
+      let es : suc start ≡ end = omega arith in
+      sym (ap unit_class (ap (places_in i bs ms start) (sym es) ∙ place_one i bs ms e h start (omega arith)))
 
   -- 'a unit of several bytes is a non-blank of the second class'
-  pub passes_several : (start + 1 ≡ end → ⊥) → r ≡ passes_of t false false → (ms : List ℕ) → length bs ≡ length ms
-      → r ≡ test_of t (places_in i bs ms start end)
-  passes_several ne er =
-      passes_by false false er
-      (λ ms e.
-      let u : List Place = places_in i bs ms start end in
-      let long : length u ≡ end - start =
-      length-drop start (take end (all i bs ms))
-      ∙ ap (λ (n : ℕ). n - start) (length-take end (all i bs ms) ∙ least ms e) in
-      let two : 1 < length u = omega arith in
-      (sym (no_single is_blank u two), sym (no_single is_letter u two)))
+  pub class_several : start + 1 < end → Other ≡ unit_class (places_in i bs ms start end)
+  class_several lt = no_single (places_in i bs ms start end) (omega (arith, long))
     where
-      least : (ms : List ℕ) → length bs ≡ length ms → min end (length (all i bs ms)) ≡ end
-      least ms e = omega (arith, all_long i bs ms e h)
+      long : length (places_in i bs ms start end) ≡ end - start
+      long =
+          length-drop start (take end (all i bs ms))
+          ∙ ap (λ (n : ℕ). n - start) (length-take end (all i bs ms) ∙ least)
+        where
+          least : min end (length (all i bs ms)) ≡ end
+          least = omega (arith, all_long i bs ms e (within_both i bs ms e h))
 
-      no_single : (test : ℕ → Bool) (u : List Place) → 1 < length u → single test u ≡ false
-      no_single test [] lt = refl
-      no_single test (p ∷ []) lt = absurd (omega arith)
-      no_single test (p ∷ q ∷ u) lt = refl
+      no_single : (u : List Place) → 1 < length u → Other ≡ unit_class u
+      no_single [] lt = absurd (omega arith)
+      no_single (p ∷ []) lt = absurd (omega arith)
+      no_single (p ∷ q ∷ u) lt = refl
 
-pub class_before : (i : Input) (bs ms : List ℕ) (end start : ℕ) (t : Test) (l : Bool) (r : Run) → length bs ≡ length ms → Starts i ms end start
-    → l ≡ letter (places_in i bs ms start end) → test_of t ≡ same_class l
-    → Cuts i bs ms end (trailing (test_of t) (units_to i bs ms end)) r → Cuts i bs ms end (one_class (units_to i bs ms end)) r
-class_before i bs ms end start t l r e s el et c =
+---- The units that pass
+
+trailing_same : (f g : List Place → Bool) → ((u : List Place) → f u ≡ g u) → (us : List (List Place)) → trailing f us ≡ trailing g us
+trailing_same f g same [] = refl
+trailing_same f g same (u ∷ us) =
+    ap (λ (t : Bool). cond t (suc (trailing f us)) 0) (same u) ∙ ap (λ (n : ℕ). cond (g u) (suc n) 0) (trailing_same f g same us)
+
+-- units that pass a test of their class
+pub cuts_by : (i : Input) (bs ms : List ℕ) (end : ℕ) (t : Class → Bool) (test : List Place → Bool) (r : Run) → ((u : List Place) → t (unit_class u) ≡ test u)
+    → Cuts i bs ms end (trailing (λ u. t (unit_class u)) (units_to i bs ms end)) r → Cuts i bs ms end (trailing test (units_to i bs ms end)) r
+cuts_by i bs ms end t test r same c = rw (← trailing_same (λ u. t (unit_class u)) test same (units_to i bs ms end)) c
+
+-- units of one class, that of the last of them
+pub class_before : (i : Input) (bs ms : List ℕ) (end start : ℕ) (l : Bool) (r : Run) → length bs ≡ length ms → Starts i ms end start
+    → l ≡ letter (places_in i bs ms start end) → (t : Class → Bool) → ((u : List Place) → t (unit_class u) ≡ same_class l u)
+    → Cuts i bs ms end (trailing (λ u. t (unit_class u)) (units_to i bs ms end)) r → Cuts i bs ms end (one_class (units_to i bs ms end)) r
+class_before i bs ms end start l r e s el t same c =
     let step : units_to i bs ms end ≡ places_in i bs ms start end ∷ units_to i bs ms start = s.unit bs e in
-    let same : trailing (test_of t) (units_to i bs ms end) ≡ one_class (units_to i bs ms end) =
-    ap (trailing (test_of t)) step
-    ∙ ap (λ (f : List Place → Bool). trailing f (places_in i bs ms start end ∷ units_to i bs ms start)) (et ∙ ap same_class el)
+    let one : trailing (same_class l) (units_to i bs ms end) ≡ one_class (units_to i bs ms end) =
+    ap (trailing (same_class l)) step
+    ∙ ap (λ (x : Bool). trailing (same_class x) (places_in i bs ms start end ∷ units_to i bs ms start)) el
     ∙ sym (ap one_class step) in
-    rw (← same) c
+    rw (← one) (cuts_by i bs ms end t (same_class l) r same c)
 
 -- one run, and then another before it
 pub cut_twice : (i : Input) (bs ms : List ℕ) (end n m : ℕ) (r s : Run) → Cuts i bs ms end n r → Cuts i bs ms r.at m s

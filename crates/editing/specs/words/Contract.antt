@@ -1,34 +1,30 @@
--- What the tests of a word erase ask of a unit.
-use Rattle.std.specs.Prelude.{Bool, true, false, not, ◌&&◌, List}
+-- The class of a unit, and what a test answers of it.
+use Rattle.std.specs.Prelude.{ℕ, Bool, ◌≡◌, List, [], ◌∷◌}
 use Rattle.rules.specs.Sizes.{Place}
-use Rattle.rules.specs.Editing.{blank, same_class}
+use Rattle.rules.specs.Classes.{class_of}
 use Rattle.rules.specs.declared.Class.{Class}
-use Rattle.rules.specs.declared.Class.TheVariants.{Blank, Letter, Control, Other}
-use Rattle.editing.specs.declared.words.Test.{Test}
-use Rattle.editing.specs.declared.words.Test.TheVariants.{Blanks, NonBlanks, Letters, Others}
+use Rattle.rules.specs.declared.Class.TheVariants.{Other}
+use Rattle.editing.specs.Contract.{places_in, units_to, Cuts}
+use Rattle.editing.specs.declared.Run.{Run}
+use Rattle.editing.specs.declared.line.Line.{Line}
 
-abbrev pub blank_class : Class → Bool
-blank_class Blank = true
-blank_class Letter = false
-blank_class Control = false
-blank_class Other = false
+-- 'A unit of several bytes is a non-blank of the second class.'
+abbrev pub unit_class : List Place → Class
+unit_class [] = Other
+unit_class (p ∷ []) = class_of p.byte
+unit_class (p ∷ q ∷ ps) = Other
 
-abbrev pub letter_class : Class → Bool
-letter_class Blank = false
-letter_class Letter = true
-letter_class Control = false
-letter_class Other = false
+-- of each class c a test answers t c
+abbrev pub Answers : (Class → Bool → Type 0) → (Class → Bool) → Type 0
+Answers post t = (c : Class) (r : Bool) → post c r → r ≡ t c
 
--- what a test asks of a unit, in the rules' words
-abbrev pub test_of : Test → List Place → Bool
-test_of Blanks = blank
-test_of NonBlanks = λ u. not (blank u)
-test_of Letters = same_class true
-test_of Others = same_class false
+---- The words of Contract.antt, of a line
 
--- the same, of a unit that is a blank or a letter or neither
-abbrev pub passes_of : Test → Bool → Bool → Bool
-passes_of Blanks b l = b
-passes_of NonBlanks b l = not b
-passes_of Letters b l = l
-passes_of Others b l = not l && not b
+abbrev pub places_of : Line → ℕ → ℕ → List Place
+places_of l at end = places_in l.input l.bytes.now l.marks.now at end
+
+abbrev pub units_of : Line → ℕ → List (List Place)
+units_of l end = units_to l.input l.bytes.now l.marks.now end
+
+abbrev pub CutsOf : Line → ℕ → ℕ → Run → Type 0
+CutsOf l end n r = Cuts l.input l.bytes.now l.marks.now end n r

@@ -7,7 +7,7 @@ returns-then-x c =
     by_alternate c.args.i c.args.bytes.now c.args.marks.now c.args.x.altwerase c.alternate_word.result c.requires.bytes_len c.requires.within
     c.if-x.true c.alternate_word.ensures
 
-pub returns : goal.returns
-returns c =
+pub returns-else-x : goal.returns-else-x
+returns-else-x c =
     by_word c.args.i c.args.bytes.now c.args.marks.now c.args.x.altwerase c.word.result c.requires.bytes_len c.requires.within c.if-x.false
     c.word.ensures

@@ -1,36 +1,20 @@
 -- `editing::words::one_class` meets its contract. Assumes nothing.
-use Rattle.editing.specs.declared.words.Test.TheVariants.{Letters, Others}
-use Rattle.rules.specs.Editing.{one_class}
-use mathlib.Core.Bool.{true, false}
-use mathlib.Core.Path.{refl, sym, ◌∙◌}
-use Rattle.editing.proofs.Laws.{none_before, within_both}
-use Rattle.editing.proofs.words.Laws.{class_before}
-use native.Mathlib.Omega.{arith}
+use mathlib.Core.Bool.{true, false, not, ◌&&◌}
+use mathlib.Core.Path.{sym, ◌∙◌}
+use Rattle.std.proofs.Common.{rules, tests}
+use Rattle.editing.specs.words.Contract.{places_of}
+use Rattle.editing.proofs.words.Laws.{blank_class, letter_class, blank_unit, letter_unit, asked_letter, class_before}
 use Rattle.editing.proofs.words.one_class.Goals as goal
 
-pub returns-then-end-i : goal.returns-then-end-i
-returns-then-end-i c =
-    none_before c.args.i c.args.bytes.now c.args.marks.now c.args.end one_class c.requires.bytes_len c.requires.line c.if-end-i.true refl
+pub returns-then-eq : goal.returns-then-eq
+returns-then-eq c =
+    let l = c.args.line.now in
+    class_before l.input l.bytes.now l.marks.now c.args.end c.unit_start-start.result true c.trailing.result l.same_length c.unit_start-start.ensures
+    (sym c.if-eq.true ∙ asked_letter (places_of l c.unit_start-start.result c.args.end) _ _ c.eq.ensures c.class_at.ensures) letter_class letter_unit (c.trailing.ensures letter_class (λ k r p. search (rules, tests)))
 
-pub passes_at-letter-requires : goal.passes_at-letter-requires
-passes_at-letter-requires c =
-    record {
-      within = within_both c.args.i c.args.bytes.now c.args.marks.now c.requires.bytes_len c.requires.line.within;
-      bounds = (omega (arith, c.unit_start-start.ensures.high, c.if-end-i.false), c.requires.line.high);
-    }
-
-pub returns-then-letter : goal.returns-then-letter
-returns-then-letter c =
-    let p = c.passes_at-letter in
-    let at-unit-start = c.unit_start-start in
-    class_before c.args.i c.args.bytes.now c.args.marks.now c.args.end at-unit-start.result Letters true c.trailing.result
-    c.requires.bytes_len at-unit-start.ensures
-    (sym c.if-letter.true ∙ p.ensures c.args.marks.now c.requires.bytes_len) refl c.trailing.ensures
-
-pub returns : goal.returns
-returns c =
-    let p = c.passes_at-letter in
-    let at-unit-start = c.unit_start-start in
-    class_before c.args.i c.args.bytes.now c.args.marks.now c.args.end at-unit-start.result Others false c.trailing-2.result
-    c.requires.bytes_len at-unit-start.ensures
-    (sym c.if-letter.false ∙ p.ensures c.args.marks.now c.requires.bytes_len) refl c.trailing-2.ensures
+pub returns-else-eq : goal.returns-else-eq
+returns-else-eq c =
+    let l = c.args.line.now in
+    class_before l.input l.bytes.now l.marks.now c.args.end c.unit_start-start.result false c.trailing-else-eq.result l.same_length c.unit_start-start.ensures
+    (sym c.if-eq.false ∙ asked_letter (places_of l c.unit_start-start.result c.args.end) _ _ c.eq.ensures c.class_at.ensures) (λ k. not (letter_class k) && not (blank_class k)) (λ u. rw (letter_unit u, blank_unit u))
+    (c.trailing-else-eq.ensures (λ k. not (letter_class k) && not (blank_class k)) (λ k r p. search (rules, tests)))

@@ -1,9 +1,16 @@
-use Rattle.editing.specs.words.Contract.{test_of}
+use mathlib.Core.Bool.{Bool}
+use Prim.Native.Nat.{◌+◌, ◌≤◌}
+use Rattle.rules.specs.declared.Class.{Class}
+use Rattle.editing.specs.words.Contract.{unit_class, Answers}
 use Rattle.editing.proofs.Laws.{Walked}
 use Rattle.editing.proofs.words.trailing.Given as goal
 
-abbrev pub invariant-loop-from : goal.invariant-loop-from
-invariant-loop-from l = Walked l.i l.bytes l.marks l.end (test_of l.test) l.from l.units
+abbrev pub invariant-loop-at : goal.invariant-loop-at
+invariant-loop-at g l =
+    (l.line.input.ready ≤ l.at)
+    × (l.units + l.at ≤ l.end)
+    × ((t : Class → Bool) → Answers (goal.F-post g l.test) t
+    → Walked l.line.input l.line.bytes.now l.line.marks.now l.end (λ u. t (unit_class u)) l.at l.units)
 
-abbrev pub decreases-loop-from : goal.decreases-loop-from
-decreases-loop-from l = l.from
+abbrev pub decreases-loop-at : goal.decreases-loop-at
+decreases-loop-at g l = l.at

@@ -1,10 +1,20 @@
 -- `editing::words::word` meets its contract. Assumes nothing.
-use Rattle.editing.proofs.words.Laws.{word_of}
+use mathlib.Core.Bool.{not}
+use mathlib.Core.Path.{ap}
+use native.Mathlib.Omega.{arith}
+use Rattle.std.proofs.Common.{rules, tests}
+use Rattle.rules.specs.Editing.{blank}
+use Rattle.editing.proofs.words.Laws.{blank_class, blank_unit, cuts_by, word_of}
 use Rattle.editing.proofs.words.word.Goals as goal
+
+pub overflow_add-result : goal.overflow_add-result
+overflow_add-result c =
+    omega (arith, (c.trailing-rest.ensures (λ k. not (blank_class k)) (λ k r p. search (rules, tests))).fewer)
 
 pub returns : goal.returns
 returns c =
-    let at-trailing2 = c.trailing-rest in
-    let at-trailing = c.trailing-blanks in
-    word_of c.args.i c.args.bytes.now c.args.marks.now c.args.i.queue.len at-trailing.result at-trailing.ensures
-    at-trailing2.result at-trailing2.ensures
+    let l = c.args.line.now in
+    let rest = c.trailing-rest in
+    word_of l.input l.bytes.now l.marks.now l.input.queue.len c.blanks-blanks.result c.blanks-blanks.ensures rest.result
+    (cuts_by l.input l.bytes.now l.marks.now c.blanks-blanks.result.at (λ k. not (blank_class k)) (λ u. not (blank u)) rest.result
+    (λ u. ap not (blank_unit u)) (rest.ensures (λ k. not (blank_class k)) (λ k r p. search (rules, tests))))
