@@ -7,79 +7,53 @@ ghost use Rattle.echo.specs.Contract.{ExtendsBy};
 ghost use Rattle.output.specs.Contract.{Echoes};
 ghost use Rattle.editing.specs.reprinting.Contract.{place_echo, reprinted, needed};
 
+use super::line::Line;
 use input::Input;
 use output::Output;
 use output::columns::Measure;
 use rules::Settings;
 
 // what place k shows, behind what is measured
-fn measured(
-    measure: Measure,
-    x: Settings,
-    i: Input,
-    bytes: &[u8],
-    marks: &[u8],
-    k: usize,
-) -> Measure
-    ensures { ExtendsBy x measure (place_echo x i bytes.now marks.now k) result }
+fn measured(measure: Measure, x: Settings, line: &Line, k: usize) -> Measure
+    ensures { ExtendsBy x measure (place_echo x line.now.input line.now.bytes.now line.now.marks.now k) result }
 {
-    if super::is_shown(i, marks, k) {
-        echo::measured(measure, x, i.queue.at(bytes, k))
+    if super::is_shown(line.input, line.marks, k) {
+        echo::measured(measure, x, line.input.queue.at(line.bytes, k))
     } else {
         measure
     }
 }
 
 // whether the echo of b, 10 and what the line shows fit in so many bytes
-fn fits(o: Output, x: Settings, i: Input, bytes: &[u8], marks: &[u8], size: usize, b: u8) -> bool
-    requires bytes_len { length bytes.now ≡ length marks.now }
-    requires within { Within i (length marks.now) }
-    ensures { result ≡ leb (needed x o i bytes.now marks.now size b) size }
+fn fits(o: Output, x: Settings, line: &Line, size: usize, b: u8) -> bool
+    ensures { result ≡ leb (needed x o line.now.input line.now.bytes.now line.now.marks.now size b) size }
 {
     let mut measure = echo::measured(o.measure(size), x, b).and(x, 10);
-    for k in i.ready..i.queue.len {
-        measure = measured(measure, x, i, bytes, marks, k);
+    for k in line.input.ready..line.input.queue.len {
+        measure = measured(measure, x, line, k);
     }
     measure.fits
 }
 
 // what place k shows, behind what is queued
-fn shown(
-    o: Output,
-    x: Settings,
-    i: Input,
-    bytes: &[u8],
-    marks: &[u8],
-    out: &mut [u8],
-    k: usize,
-) -> Output
-    ensures { Echoes x o out.old (place_echo x i bytes.now marks.now k) result out.new }
+fn shown(o: Output, x: Settings, line: &Line, out: &mut [u8], k: usize) -> Output
+    ensures { Echoes x o out.old (place_echo x line.now.input line.now.bytes.now line.now.marks.now k) result out.new }
 {
-    if super::is_shown(i, marks, k) {
-        echo::show(o, x, out, i.queue.at(bytes, k))
+    if super::is_shown(line.input, line.marks, k) {
+        echo::show(o, x, out, line.input.queue.at(line.bytes, k))
     } else {
         o.fit(out.len())
     }
 }
 
 // the echo of b, 10 and what the line shows, for which there is room
-fn shown_line(
-    o: Output,
-    x: Settings,
-    i: Input,
-    bytes: &[u8],
-    marks: &[u8],
-    out: &mut [u8],
-    b: u8,
-) -> Output
-    requires bytes_len { length bytes.now ≡ length marks.now }
-    requires within { Within i (length marks.now) }
-    requires room { needed x o i bytes.now marks.now (length out.old) b ≤ length out.old }
-    ensures { Echoes x o out.old (reprinted x i bytes.now marks.now b i.queue.len) result out.new }
+fn shown_line(o: Output, x: Settings, line: &Line, out: &mut [u8], b: u8) -> Output
+    requires { needed x o line.now.input line.now.bytes.now line.now.marks.now (length out.old) b ≤ length out.old }
+    ensures { Echoes x o out.old (reprinted x line.now.input line.now.bytes.now line.now.marks.now b line.now.input.queue.len) result out.new }
 {
     let mut shows = echo::show_line(o, x, out, b);
-    for k in i.ready..i.queue.len {
-        shows = shown(shows, x, i, bytes, marks, out, k);
+    for k in line.input.ready..line.input.queue.len {
+        shows = shown(shows, x, line, out, k);
     }
     shows
 }
@@ -99,8 +73,13 @@ pub fn of_reprinted(
     ensures { Echoes x o out.old (edit_echo x reprint b 0 (units (get i bytes.now marks.now).current)) result out.new }
 {
     let n = out.len();
-    if x.echo && fits(o, x, i, bytes, marks, n, b) {
-        shown_line(o, x, i, bytes, marks, out, b)
+    let line = Line {
+        input: i,
+        bytes,
+        marks,
+    };
+    if x.echo && fits(o, x, &line, n, b) {
+        shown_line(o, x, &line, out, b)
     } else {
         o.fit(n)
     }

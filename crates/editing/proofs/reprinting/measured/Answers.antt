@@ -12,14 +12,14 @@ returns-then-is_shown c =
     let at-if1 = c.if-is_shown in
     let t = c.is_shown in
     let a = c.args in
-    extends_as a.x a.measure c.measured.result (visible a.x v.result) (place_echo a.x a.i a.bytes.now a.marks.now a.k)
-    (place_seen a.x a.i a.bytes.now a.marks.now a.k t.result t.ensures v.result at-if1.true v.ensures)
+    extends_as a.x a.measure c.measured.result (visible a.x v.result) (place_echo a.x a.line.now.input a.line.now.bytes.now a.line.now.marks.now a.k)
+    (place_seen a.x a.line.now.input a.line.now.bytes.now a.line.now.marks.now a.k t.result t.ensures v.result at-if1.true v.ensures)
     c.measured.ensures
 
 pub returns-else-is_shown : goal.returns-else-is_shown
 returns-else-is_shown c =
     let a = c.args in
     let t = c.is_shown in
-    extends_as a.x a.measure a.measure [] (place_echo a.x a.i a.bytes.now a.marks.now a.k)
-    (place_unseen a.x a.i a.bytes.now a.marks.now a.k t.result t.ensures c.if-is_shown.false)
+    extends_as a.x a.measure a.measure [] (place_echo a.x a.line.now.input a.line.now.bytes.now a.line.now.marks.now a.k)
+    (place_unseen a.x a.line.now.input a.line.now.bytes.now a.line.now.marks.now a.k t.result t.ensures c.if-is_shown.false)
     (extends_none a.x a.measure)

@@ -7,13 +7,7 @@ pub shown_line-requires : goal.shown_line-requires
 shown_line-requires c =
     let t = c.fits in
     let a = c.args in
-    record {
-      bytes_len = c.requires.bytes_len;
-      within = c.requires.within;
-      room =
-          room_for a.x a.o a.i a.bytes.now a.marks.now a.out.now a.b c.requires.bytes_len c.requires.within t.result
-          t.ensures c.if-fits.true;
-    }
+    room_for a.x a.o a.i a.bytes.now a.marks.now a.out.now a.b c.requires.bytes_len c.requires.within t.result t.ensures c.if-fits.true
 
 pub returns-then-fits : goal.returns-then-fits
 returns-then-fits c =

@@ -14,14 +14,14 @@ returns-then-is_shown c =
     let t = c.is_shown in
     let a = c.args in
     shows_as a.x a.o r.result a.out.now r.new.out (visible a.x v.result)
-    (place_echo a.x a.i a.bytes.now a.marks.now a.k)
-    (place_seen a.x a.i a.bytes.now a.marks.now a.k t.result t.ensures v.result at-if1.true v.ensures)
+    (place_echo a.x a.line.now.input a.line.now.bytes.now a.line.now.marks.now a.k)
+    (place_seen a.x a.line.now.input a.line.now.bytes.now a.line.now.marks.now a.k t.result t.ensures v.result at-if1.true v.ensures)
     r.ensures
 
 pub returns-else-is_shown : goal.returns-else-is_shown
 returns-else-is_shown c =
     let a = c.args in
     let t = c.is_shown in
-    shows_as a.x a.o c.fit.result a.out.now a.out.now [] (place_echo a.x a.i a.bytes.now a.marks.now a.k)
-    (place_unseen a.x a.i a.bytes.now a.marks.now a.k t.result t.ensures c.if-is_shown.false)
+    shows_as a.x a.o c.fit.result a.out.now a.out.now [] (place_echo a.x a.line.now.input a.line.now.bytes.now a.line.now.marks.now a.k)
+    (place_unseen a.x a.line.now.input a.line.now.bytes.now a.line.now.marks.now a.k t.result t.ensures c.if-is_shown.false)
     (shows_none a.x a.o c.fit.result a.out.now c.fit.ensures)

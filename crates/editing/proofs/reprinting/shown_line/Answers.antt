@@ -6,7 +6,7 @@ pub loop-k-init : goal.loop-k-init
 loop-k-init c =
     let a = c.args in
     let f = c.show_line-shows in
-    showing_none a.x a.i a.bytes.now a.marks.now c.requires.bytes_len c.requires.within f.result f.new.out
+    showing_none a.x a.line.now.input a.line.now.bytes.now a.line.now.marks.now a.line.now.same_length a.line.now.within f.result f.new.out
 
 pub loop-k-preserved : goal.loop-k-preserved
 loop-k-preserved c =
@@ -15,7 +15,7 @@ loop-k-preserved c =
     let l = c.loop-k in
     let f = c.show_line-shows in
     let a = c.args in
-    showing_next a.x a.i a.bytes.now a.marks.now c.requires.bytes_len c.requires.within f.result f.new.out l.k l.shows t.result l.out
+    showing_next a.x a.line.now.input a.line.now.bytes.now a.line.now.marks.now a.line.now.same_length a.line.now.within f.result f.new.out l.k l.shows t.result l.out
     t.new.out l.invariant at-loop-test.true t.ensures
 
 pub shape_of-out : goal.shape_of-out
@@ -23,13 +23,13 @@ shape_of-out c =
     let l = c.loop-k in
     let f = c.show_line-shows in
     let a = c.args in
-    shown_size a.x a.i a.bytes.now a.marks.now c.requires.bytes_len c.requires.within f.result f.new.out a.o a.out.now a.b
-    c.requires.room f.ensures l.k l.shows l.out l.invariant
+    shown_size a.x a.line.now.input a.line.now.bytes.now a.line.now.marks.now a.line.now.same_length a.line.now.within f.result f.new.out a.o a.out.now a.b
+    c.requires f.ensures l.k l.shows l.out l.invariant
 
 pub returns : goal.returns
 returns c =
     let l = c.loop-k in
     let f = c.show_line-shows in
     let a = c.args in
-    shown_all a.x a.i a.bytes.now a.marks.now c.requires.bytes_len c.requires.within f.result f.new.out a.o a.out.now a.b
-    c.requires.room f.ensures l.k l.shows l.out l.invariant c.loop-k-test.false
+    shown_all a.x a.line.now.input a.line.now.bytes.now a.line.now.marks.now a.line.now.same_length a.line.now.within f.result f.new.out a.o a.out.now a.b
+    c.requires f.ensures l.k l.shows l.out l.invariant c.loop-k-test.false
