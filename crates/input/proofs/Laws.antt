@@ -4,24 +4,23 @@ use mathlib.Core.Logic.{⊎_elim}
 use mathlib.Core.Bool.{Bool, true, false, ◌&&◌, and-false}
 use mathlib.Core.List.{List, [], ◌∷◌, ◌++◌, map, reverse, append-nil, append_assoc, reverse-cons, reverse-append, reverse-reverse}
 use Prim.Native.Nat.{ℕ, zero, suc, ◌+◌, ◌-◌, ◌*◌, ◌/◌, ◌%◌, ◌<◌, ◌≤◌, min}
-use native.Mathlib.Nat.{mod-mod, add_assoc}
+use native.Mathlib.Nat.{mod-mod}
 use native.Mathlib.Omega.{arith}
 use lib.ListN.{length, get_or, take, drop, length-append, length-take, length-drop, length-reverse, length-map, take-append-drop, drop_of_length-le}
 use lib.Seq.{take_at, drop_at, take-take, take_all}
 use lib.Dec.{leb, ltb, eqb}
 use borrow.Author.Tests.{le-leb, lt-leb, lt-ltb, le-ltb}
 use Rattle.queue.specs.Ring.{ring, stores}
-use Rattle.queue.specs.Queue.{held, laid, appended, Holds, fitted as queue_fitted}
+use Rattle.queue.specs.Queue.{held, appended, Holds, fitted as queue_fitted}
 use Rattle.queue.specs.declared.Queue.{Queue}
 use Rattle.queue.proofs.Rings.{lt_or_le, stores_length, ring_length, ring_mod, take_ring}
-use Rattle.queue.proofs.Laws.{stores_append, put_append, held_length, held_fitted, held_laid, holds_room}
+use Rattle.queue.proofs.Laws.{put_append, held_length, held_fitted, held_laid, holds_room}
 use Rattle.rules.specs.Sizes.{Place, Input as Ruled, used}
 use Rattle.rules.specs.Settings.{stored}
 use Rattle.rules.specs.Fit.{kept_in}
 use Rattle.input.specs.Contract.{place_of, bit, mark_of, byte_of, places, all, get, put, added, InputBecomes, Within, Room, Grows, TellsEnd}
-use Rattle.input.specs.Contract.{TellsUnit, fitted, shortened, line_to, cut_at, emptied, ended_in, unit_of}
+use Rattle.input.specs.Contract.{TellsUnit, fitted, shortened, line_to, cut_at, emptied, ended_in}
 use Rattle.input.specs.declared.Input.{Input}
-use Rattle.input.specs.declared.Unit.{Unit}
 use Rattle.rules.proofs.Limits.{stored_length}
 
 ---- A place and its mark byte
@@ -184,12 +183,6 @@ fitted_same i bs ms e =
     ∙ sym (stored_all i bs ms))
     (sym (length-take i.ready (all i bs ms) ∙ ap (min i.ready) (all_length i bs ms e)))
     refl
-
-pub fit_of : (i : Input) (q : Queue) (n k : ℕ) → q ≡ queue_fitted n i.queue → k ≡ min i.ready q.len
-    → ◌≡◌ {A = Input} (record { queue = q; ready = k; literal = i.literal }) (fitted n i)
-fit_of i q n k eq ek =
-    ap (λ (x : ℕ). record { queue = q; ready = x; literal = i.literal }) ek
-    ∙ ap (λ (x : Queue). record { queue = x; ready = min i.ready x.len; literal = i.literal }) eq
 
 ---- What a queue holds after it grew or was cut
 
@@ -397,64 +390,6 @@ added_one i q p bs ms bs' ms' b m room hb hm =
     let pm = pushed i.queue p ms ms' m (rw (← room.same) room.within.head) (rw (← room.same) room.room) hm in
     record { input = ap (λ (x : Queue). record { queue = x; ready = i.ready; literal = i.literal }) pb.0; bytes = pb.1; marks = pm.1 }
 
--- two runs of stores, one behind the other
-twice : (l l' l'' b c : List ℕ) (h k n : ℕ) → length b ≡ n → l' ≡ stores (length l) l (h + k) b
-    → l'' ≡ stores (length l') l' (h + (k + n)) c → l'' ≡ stores (length l) l (h + k) (b ++ c)
-twice l l' l'' b c h k n en e f =
-    let N : ℕ = length l in
-    f
-    ∙ ap (λ (x : ℕ). stores x l' (h + (k + n)) c) (ap length e ∙ simp stores_length)
-    ∙ ap (λ (x : List ℕ). stores N x (h + (k + n)) c) e
-    ∙ ap (λ (x : ℕ). stores N (stores N l (h + k) b) x c) (ap (λ (x : ℕ). h + (k + x)) (sym en) ∙ sym (add_assoc h k (length b)))
-    ∙ sym (stores_append N (h + k) l b c)
-
-module _ (i r : Input) (bs ms bs' ms' b m : List ℕ) (g : Grows i bs ms b m r bs' ms') where
-  -- what room there was, without what was added
-  pub grown_room : (k : ℕ) → Room i bs ms (length b + k) → Room r bs' ms' k
-  grown_room k room =
-      let eb : length bs' ≡ length bs = ap length g.bytes ∙ simp stores_length in
-      let em : length ms' ≡ length ms = ap length g.marks ∙ simp stores_length in
-      rw g.input
-      (record {
-        same = eb ∙ room.same ∙ sym em;
-        within =
-            rw eb
-            (record { head = room.within.head; len = omega (arith, room.room); ready = omega (arith, room.within.ready) });
-        room = omega (arith, room.room, eb);
-      })
-
-  -- a and then b is both
-  pub grown_twice : (s : Input) (bs'' ms'' c n : List ℕ) → length b ≡ length m → Grows r bs' ms' c n s bs'' ms'' → Grows i bs ms (b ++ c) (m ++ n) s bs'' ms''
-  grown_twice s bs'' ms'' c n e f =
-      let h : ℕ = i.queue.head in
-      let k : ℕ = i.queue.len in
-      let n' : k + length b + length c ≡ k + length (b ++ c) = add_assoc k (length b) (length c) ∙ ap (◌+◌ k) (sym (length-append b c)) in
-      record {
-        input =
-            f.input
-            ∙ ap (λ (x : Input). record { queue = record { head = x.queue.head; len = x.queue.len + length c }; ready = x.ready; literal = x.literal })
-            g.input
-            ∙ ap (λ (x : ℕ). record { queue = record { head = h; len = x }; ready = i.ready; literal = i.literal }) n';
-        bytes =
-            twice bs bs' bs'' b c h k (length b) refl g.bytes
-            (f.bytes ∙ ap (λ (x : Input). stores (length bs') bs' (x.queue.head + x.queue.len) c) g.input);
-        marks =
-            twice ms ms' ms'' m n h k (length b) (sym e) g.marks
-            (f.marks ∙ ap (λ (x : Input). stores (length ms') ms' (x.queue.head + x.queue.len) n) g.input);
-      }
-
-pub first_room : (i : Input) (bs ms : List ℕ) (k : ℕ) → Room i bs ms (suc k) → Room i bs ms 1
-first_room i bs ms k r = record { same = r.same; within = r.within; room = omega (arith, r.room) }
-
--- in the arm of one variant
-module _ {u v : Unit} (i : Input) (bs ms : List ℕ) (e : u ≡ v) where
-  pub unit_room : Room i bs ms (length (unit_of u)) → Room i bs ms (length (unit_of v))
-  unit_room r = rw (← e) r
-
-  pub unit_added : (r : Input) (bs' ms' : List ℕ) → Grows i bs ms (map byte_of (unit_of v)) (map mark_of (unit_of v)) r bs' ms'
-      → Grows i bs ms (map byte_of (unit_of u)) (map mark_of (unit_of u)) r bs' ms'
-  unit_added r bs' ms' g = rw e g
-
 ---- store, end, end_of_file
 
 -- A run of places behind what was held is the input w, where w has just these places more and its own finished part.
@@ -563,9 +498,6 @@ less_both k u n le =
 pub room_left : (a u line k n : ℕ) → a ≤ line - u → u ≤ line → u ≤ n → ltb k (n - u) ≡ (leb (a + u) line && ltb (k + u) n)
 room_left a u line k n la lu le = rw (le-leb (a + u) line (omega arith)) (less_both k u n le)
 
-pub no_places : (k u n : ℕ) → n < u → false ≡ leb (k + u) n
-no_places k u n lt = sym (lt-leb (k + u) n (omega arith))
-
 pub places_left : (k u n : ℕ) → u ≤ n → leb k (n - u) ≡ leb (k + u) n
 places_left k u n le =
     ⊎_elim
@@ -574,20 +506,6 @@ places_left k u n le =
     (lt_or_le n (k + u))
 
 ---- cut, flush
-
-pub flush_of : (q : Queue) (f : Input) (h : ℕ) → q ≡ laid h [] → f ≡ record { queue = laid 0 []; ready = 0; literal = false }
-    → ◌≡◌ {A = Input} (record { queue = q; ready = f.ready; literal = f.literal }) (put emptied h)
-flush_of q f h eq ef =
-    ap (λ (x : Input). record { queue = q; ready = x.ready; literal = x.literal }) ef
-    ∙ ap (λ (x : Queue). record { queue = x; ready = 0; literal = false }) eq
-
-pub cut_of : (i : Input) (q : Queue) (n at gone : ℕ) → Within i n → gone ≡ i.queue.len - at
-    → q ≡ record { head = i.queue.head % n; len = min i.queue.len n - gone }
-    → ◌≡◌ {A = Input} (record { queue = q; ready = i.ready; literal = i.literal }) (shortened at i)
-cut_of i q n at gone h eg eq =
-    let k : min i.queue.len n - gone ≡ min i.queue.len at = omega (arith, h.len) in
-    ap (λ (x : Queue). record { queue = x; ready = i.ready; literal = i.literal }) eq
-    ∙ numbers_are (i.queue.head % n) i.queue.head _ (min i.queue.len at) i.ready i.ready i.literal i.literal h.head k refl refl
 
 module _ (i : Input) (bs ms : List ℕ) (e : length bs ≡ length ms) where
   pub flush_becomes : InputBecomes i bs ms emptied (put emptied (i.queue.head % length bs)) bs ms

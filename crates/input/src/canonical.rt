@@ -3,7 +3,7 @@ ghost use Rattle.input.specs.Contract.{Sound, Within};
 ghost use Rattle.input.specs.canonical.Contract.{GoesOff, GoesOn, in_line};
 ghost use Rattle.std.specs.Prelude.{◌≡◌, length};
 
-use super::Input;
+use super::{END_OF_FILE, Input, has};
 use queue::Queue;
 
 // 'if ICANON goes off, all stored bytes become readable and end-of-file marks vanish'
@@ -14,7 +14,7 @@ pub fn without_marks(i: Input, bytes: &mut [u8], marks: &mut [u8]) -> Input
     let mut kept = 0;
     for k in 0..i.queue.len {
         let m = i.queue.at(marks, k);
-        if !super::is_mark(m) {
+        if !has(m, END_OF_FILE) {
             let b = i.queue.at(bytes, k);
             i.queue.change(bytes, kept, b);
             i.queue.change(marks, kept, m % 16);

@@ -7,7 +7,7 @@ pub mod canonical;
 pub mod reading;
 pub mod units;
 
-ghost use Rattle.std.specs.Prelude.{◌≡◌, ◌%◌, ◌/◌, eqb, false, [], ◌∷◌};
+ghost use Rattle.std.specs.Prelude.{◌≡◌, ◌<◌, ◌%◌, ◌/◌, eqb, false, [], ◌∷◌};
 ghost use Rattle.queue.specs.Queue.{laid};
 ghost use Rattle.input.specs.Contract.{put, Within, fitted, shortened, emptied, Room, Grows};
 
@@ -29,28 +29,24 @@ pub(crate) const END_OF_FILE: u8 = 4; // it is an end-of-file mark
 
 pub(crate) const SILENT: u8 = 8; // its unit had no echo
 
+// whether a mark byte has this bit
+pub(crate) fn has(m: u8, bit: u8) -> bool
+    requires { 0 < bit }
+    ensures { result ≡ eqb (m / bit % 2) 1 }
+{
+    m / bit % 2 == 1
+}
+
 pub fn starts(m: u8) -> bool
     ensures { result ≡ eqb (m % 2) 1 }
 {
-    m % 2 == 1
-}
-
-pub(crate) fn ends(m: u8) -> bool
-    ensures { result ≡ eqb (m / 2 % 2) 1 }
-{
-    m / ENDS % 2 == 1
-}
-
-pub(crate) fn is_mark(m: u8) -> bool
-    ensures { result ≡ eqb (m / 4 % 2) 1 }
-{
-    m / END_OF_FILE % 2 == 1
+    has(m, STARTS)
 }
 
 pub fn silent(m: u8) -> bool
     ensures { result ≡ eqb (m / 8 % 2) 1 }
 {
-    m / SILENT % 2 == 1
+    has(m, SILENT)
 }
 
 // What one event stores: a good byte; a 255 that is doubled; a break or a broken byte as 0, or as 255,0 and the byte.
@@ -66,9 +62,8 @@ impl Input {
     pub fn fresh() -> Input
         ensures { result ≡ record { queue = laid 0 []; ready = 0; literal = false } }
     {
-        let queue = Queue::empty();
         Input {
-            queue: queue,
+            queue: Queue::empty(),
             ready: 0,
             literal: false,
         }
@@ -78,12 +73,10 @@ impl Input {
     pub fn fit(self, n: usize) -> Input
         ensures { result ≡ fitted n self }
     {
-        let q = self.queue;
-        let queue = q.fit(n);
-        let ready = queue::least(self.ready, queue.len);
+        let queue = self.queue.fit(n);
         Input {
-            queue: queue,
-            ready: ready,
+            queue,
+            ready: self.ready.min(queue.len),
             ..self
         }
     }
@@ -91,22 +84,16 @@ impl Input {
     pub fn with_literal(self, literal: bool) -> Input
         ensures { result ≡ record { queue = self.queue; ready = self.ready; literal = literal } }
     {
-        Input {
-            literal: literal,
-            ..self
-        }
+        Input { literal, ..self }
     }
 
     // 'Flushing input drops finished lines, the current line and "literal next".'
     pub fn flush(self, n: usize) -> Input
         ensures { result ≡ put emptied (self.queue.head % n) }
     {
-        let q = self.queue;
-        let queue = q.drop_all(n);
-        let empty = Input::fresh();
         Input {
-            queue: queue,
-            ..empty
+            queue: self.queue.drop_all(n),
+            ..Input::fresh()
         }
     }
 
@@ -115,31 +102,30 @@ impl Input {
         requires { Within self n }
         ensures { result ≡ shortened at self }
     {
-        let q = self.queue;
-        let gone = queue::less(q.len, at);
-        let queue = q.drop_newest(n, gone);
+        let gone = self.queue.len.saturating_sub(at);
         Input {
-            queue: queue,
+            queue: self.queue.drop_newest(n, gone),
             ..self
         }
     }
-}
 
-// one place more, at the end of the current line
-pub(crate) fn add(i: Input, bytes: &mut [u8], marks: &mut [u8], b: u8, m: u8) -> Input
-    requires { Room i bytes.old marks.old 1 }
-    ensures { Grows i bytes.old marks.old (b ∷ []) (m ∷ []) result bytes.new marks.new }
-{
-    let q = i.queue;
-    let queue = q.push(bytes, b);
-    q.push(marks, m);
-    Input { queue: queue, ..i }
-}
+    // one place more, at the end of the current line
+    pub(crate) fn add(self, bytes: &mut [u8], marks: &mut [u8], b: u8, m: u8) -> Input
+        requires { Room self bytes.old marks.old 1 }
+        ensures { Grows self bytes.old marks.old (b ∷ []) (m ∷ []) result bytes.new marks.new }
+    {
+        let queue = self.queue.push(bytes, b);
+        self.queue.push(marks, m);
+        Input { queue, ..self }
+    }
 
-// all places are finished
-pub(crate) fn all_ready(i: Input) -> Input
-    ensures { result ≡ record { queue = i.queue; ready = i.queue.len; literal = i.literal } }
-{
-    let q = i.queue;
-    Input { ready: q.len, ..i }
+    // all places are finished
+    pub(crate) fn all_ready(self) -> Input
+        ensures { result ≡ record { queue = self.queue; ready = self.queue.len; literal = self.literal } }
+    {
+        Input {
+            ready: self.queue.len,
+            ..self
+        }
+    }
 }

@@ -3,7 +3,7 @@ ghost use Rattle.std.specs.Prelude.{length};
 ghost use Rattle.input.specs.Contract.{Within, Sound};
 ghost use Rattle.input.specs.reading.Contract.{TellsLine, ReadsLine, ReadsBytes, Gives, Given};
 
-use super::Input;
+use super::{END_OF_FILE, ENDS, Input, has};
 use queue::Counted;
 
 // The bytes of the first line that a read gives, and the places that it takes: a mark is a place and no byte.
@@ -21,20 +21,20 @@ pub fn first_line(i: Input, marks: &[u8], n: usize) -> Line
     let most = n.min(i.ready);
     for k in 0..most {
         let m = i.queue.at(marks, k);
-        if super::is_mark(m) {
+        if has(m, END_OF_FILE) {
             return Line {
                 count: k,
                 taken: k + 1, // a mark is taken and gives no byte
             };
         }
-        if super::ends(m) {
+        if has(m, ENDS) {
             return Line {
                 count: k + 1,
                 taken: k + 1,
             };
         }
     }
-    if most < i.ready && super::is_mark(i.queue.at(marks, most)) {
+    if most < i.ready && has(i.queue.at(marks, most), END_OF_FILE) {
         return Line {
             count: most,
             taken: most + 1, // 'Taking the last byte before a mark takes the mark.'

@@ -6,15 +6,15 @@ ghost use Rattle.input.specs.Contract.{unit_of, Within, TellsUnit, TellsEnd, Roo
 ghost use Rattle.input.specs.Contract.{Ends};
 ghost use Rattle.rules.specs.Received as steps;
 
-use super::{Input, Unit};
+use super::{END_OF_FILE, ENDS, Input, SILENT, STARTS, Unit};
 use rules::Settings;
 
 // The marks of a delimiter, of an end-of-file mark, of the first place of a silent unit; and of a place in a unit.
-const DELIMITER: u8 = super::STARTS + super::ENDS;
+const DELIMITER: u8 = STARTS + ENDS;
 
-const MARK: u8 = super::STARTS + super::ENDS + super::END_OF_FILE;
+const MARK: u8 = STARTS + ENDS + END_OF_FILE;
 
-const SILENT_START: u8 = super::STARTS + super::SILENT;
+const SILENT_START: u8 = STARTS + SILENT;
 
 const WITHIN: u8 = 0;
 
@@ -22,19 +22,11 @@ const WITHIN: u8 = 0;
 pub fn unit_of(x: Settings, b: u8) -> Unit
     ensures { unit_of result ≡ unit false b (steps.doubled x b) }
 {
-    if b == 255 {
-        if x.parmrk {
-            if x.ignpar {
-                return Unit::Plain(255);
-            }
-            if x.istrip {
-                return Unit::Plain(255);
-            }
-            return Unit::Doubled;
-        }
-        return Unit::Plain(255);
+    if b == 255 && x.parmrk && !x.ignpar && !x.istrip {
+        Unit::Doubled
+    } else {
+        Unit::Plain(b)
     }
-    Unit::Plain(b)
 }
 
 // the bytes of a unit
@@ -42,9 +34,8 @@ pub fn size(u: Unit) -> usize
     ensures { result ≡ length (unit_of u) }
 {
     match u {
-        Unit::Plain(_) => 1,
+        Unit::Plain(_) | Unit::Zero => 1,
         Unit::Doubled => 2,
-        Unit::Zero => 1,
         Unit::Broken(_) => 3,
     }
 }
@@ -54,25 +45,13 @@ pub fn unit_fits(i: Input, n: usize, line: usize, canonical: bool, u: usize) -> 
     requires { Within i n }
     ensures { TellsUnit i n line canonical u result }
 {
-    let q = i.queue;
-    let len = q.len;
+    let len = i.queue.len;
     if canonical {
         let current = len - i.ready;
-        if line < u {
-            return false;
-        }
-        if line - u < current {
-            return false;
-        }
-        if n < u {
-            return false;
-        }
-        return len < n - u;
+        u <= line && current <= line - u && u <= n && len < n - u
+    } else {
+        u <= n && len <= n - u
     }
-    if n < u {
-        return false;
-    }
-    len <= n - u
 }
 
 // 'a delimiter or mark fits if at most 1,023 places are used', in n places
@@ -80,8 +59,7 @@ pub fn end_fits(i: Input, n: usize) -> bool
     requires { Within i n }
     ensures { TellsEnd i n result }
 {
-    let q = i.queue;
-    q.len < n
+    i.queue.len < n
 }
 
 // the current line ends with a delimiter
@@ -89,8 +67,7 @@ pub fn end(i: Input, bytes: &mut [u8], marks: &mut [u8], b: u8) -> Input
     requires { Room i bytes.old marks.old 1 }
     ensures { Ends (delimiter b) i bytes.old marks.old result bytes.new marks.new }
 {
-    let longer = super::add(i, bytes, marks, b, DELIMITER);
-    super::all_ready(longer)
+    i.add(bytes, marks, b, DELIMITER).all_ready()
 }
 
 // the current line ends with an end-of-file mark
@@ -98,8 +75,7 @@ pub fn end_of_file(i: Input, bytes: &mut [u8], marks: &mut [u8]) -> Input
     requires { Room i bytes.old marks.old 1 }
     ensures { Ends end_of_file i bytes.old marks.old result bytes.new marks.new }
 {
-    let longer = super::add(i, bytes, marks, 0, MARK);
-    super::all_ready(longer)
+    i.add(bytes, marks, 0, MARK).all_ready()
 }
 
 fn add_unit(i: Input, bytes: &mut [u8], marks: &mut [u8], u: Unit) -> Input
@@ -107,17 +83,15 @@ fn add_unit(i: Input, bytes: &mut [u8], marks: &mut [u8], u: Unit) -> Input
     ensures { Grows i bytes.old marks.old (map byte_of (unit_of u)) (map mark_of (unit_of u)) result bytes.new marks.new }
 {
     match u {
-        Unit::Plain(b) => super::add(i, bytes, marks, b, super::STARTS),
-        Unit::Doubled => {
-            let first = super::add(i, bytes, marks, 255, super::STARTS);
-            super::add(first, bytes, marks, 255, WITHIN)
-        }
-        Unit::Zero => super::add(i, bytes, marks, 0, SILENT_START),
-        Unit::Broken(b) => {
-            let first = super::add(i, bytes, marks, 255, SILENT_START);
-            let second = super::add(first, bytes, marks, 0, super::SILENT);
-            super::add(second, bytes, marks, b, super::SILENT)
-        }
+        Unit::Plain(b) => i.add(bytes, marks, b, STARTS),
+        Unit::Doubled => i
+            .add(bytes, marks, 255, STARTS)
+            .add(bytes, marks, 255, WITHIN),
+        Unit::Zero => i.add(bytes, marks, 0, SILENT_START),
+        Unit::Broken(b) => i
+            .add(bytes, marks, 255, SILENT_START)
+            .add(bytes, marks, 0, SILENT)
+            .add(bytes, marks, b, SILENT),
     }
 }
 
@@ -128,7 +102,8 @@ pub fn store(i: Input, bytes: &mut [u8], marks: &mut [u8], canonical: bool, u: U
 {
     let longer = add_unit(i, bytes, marks, u);
     if canonical {
-        return longer;
+        longer
+    } else {
+        longer.all_ready()
     }
-    super::all_ready(longer)
 }

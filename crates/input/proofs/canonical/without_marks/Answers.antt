@@ -3,7 +3,7 @@ use mathlib.Core.Path.{◌∙◌}
 use native.Mathlib.Omega.{arith}
 use Rattle.input.proofs.canonical.GoesOff.{keeps_begin, keeps_skip, keeps_more, keeps_end}
 use Rattle.input.proofs.canonical.without_marks.Goals as goal
-use Rattle.input.proofs.canonical.without_marks.Goals.{then-not-is_mark, else-not-is_mark}
+use Rattle.input.proofs.canonical.without_marks.Goals.{then-not-has, else-not-has}
 
 pub loop-k-init : goal.loop-k-init
 loop-k-init c =
@@ -22,15 +22,15 @@ loop-k-preserved c =
     let loop = c.loop-k in
     let lt = c.loop-k-test.true in
     let m = c.at-m in
-    let mark = c.is_mark in
-    elim c.if-not-is_mark.branch [
-      | then-not-is_mark w ↦ rw w.kept-is
+    let mark = c.has in
+    elim c.if-not-has.branch [
+      | then-not-has w ↦ rw w.kept-is
           (keeps_more c.args.i bs ms c.requires loop.k loop.kept loop.bytes loop.marks loop.invariant lt
-          m.result w.at-b.result mark.result c.if-not-is_mark.bytes c.if-not-is_mark.marks m.ensures mark.ensures
-          w.if-not-is_mark.true w.at-b.ensures (w.bytes-is ∙ w.change.ensures) (w.marks-is ∙ w.change-then-not-is_mark.ensures))
-      | else-not-is_mark w ↦ rw (w.bytes-is, w.marks-is, w.kept-is)
+          m.result w.at-b.result mark.result c.if-not-has.bytes c.if-not-has.marks m.ensures mark.ensures
+          w.if-not-has.true w.at-b.ensures (w.bytes-is ∙ w.change.ensures) (w.marks-is ∙ w.change-then-not-has.ensures))
+      | else-not-has w ↦ rw (w.bytes-is, w.marks-is, w.kept-is)
           (keeps_skip c.args.i bs ms c.requires loop.k loop.kept loop.bytes loop.marks loop.invariant lt
-          m.result mark.result m.ensures mark.ensures w.if-not-is_mark.false)
+          m.result mark.result m.ensures mark.ensures w.if-not-has.false)
     ]
 
 pub shape_of-bytes : goal.shape_of-bytes

@@ -5,21 +5,21 @@ use native.Mathlib.Omega.{arith}
 use Rattle.queue.specs.Queue.{held}
 use Rattle.input.proofs.reading.FirstLine.{plain_next, line_at_mark, line_at_end, line_at_stop, line_at_last}
 use Rattle.input.proofs.reading.first_line.Goals as goal
-use Rattle.input.proofs.reading.first_line.Goals.{else-most-i-via-then-most-i+else-is_mark-2, else-most-i-via-else-most-i}
+use Rattle.input.proofs.reading.first_line.Goals.{else-most-i-via-then-most-i+else-has-3, else-most-i-via-else-most-i}
 
-pub returns-then-is_mark : goal.returns-then-is_mark
-returns-then-is_mark c =
+pub returns-then-has : goal.returns-then-has
+returns-then-has c =
     line_at_mark c.args.i c.args.marks.now c.args.n c.loop-k.k c.requires (omega arith) c.loop-k.invariant (omega arith) (cc)
 
-pub returns-then-ends : goal.returns-then-ends
-returns-then-ends c =
+pub returns-then-has-2 : goal.returns-then-has-2
+returns-then-has-2 c =
     line_at_end c.args.i c.args.marks.now c.args.n c.loop-k.k c.requires (omega arith) c.loop-k.invariant (omega arith) (omega arith) (cc) (cc)
 
 pub loop-k-preserved : goal.loop-k-preserved
 loop-k-preserved c = plain_next (held c.args.i.queue c.args.marks.now) c.loop-k.k c.loop-k.invariant (cc) (cc)
 
-pub returns-then-is_mark-2 : goal.returns-then-is_mark-2
-returns-then-is_mark-2 c =
+pub returns-then-has-3 : goal.returns-then-has-3
+returns-then-has-3 c =
     let most = c.min-most.result in
     let k : most ≡ c.loop-k.k = omega arith in
     line_at_mark c.args.i c.args.marks.now c.args.n most c.requires (omega arith) (rw k c.loop-k.invariant) (omega arith) (cc)
@@ -30,7 +30,7 @@ returns c =
     let k : most ≡ c.loop-k.k = omega arith in
     let le : most ≤ min c.args.n c.args.i.ready = omega arith in
     elim c.else-most-i.branch [
-      | else-most-i-via-then-most-i+else-is_mark-2 w ↦
+      | else-most-i-via-then-most-i+else-has-3 w ↦
           line_at_stop c.args.i c.args.marks.now c.args.n most c.requires le (rw k c.loop-k.invariant) (omega arith) (omega arith) (cc)
       | else-most-i-via-else-most-i w ↦
           line_at_last c.args.i c.args.marks.now c.args.n most c.requires le (rw k c.loop-k.invariant) (omega arith)

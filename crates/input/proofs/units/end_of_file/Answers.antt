@@ -5,6 +5,6 @@ use Rattle.input.proofs.units.end_of_file.Goals as goal
 
 pub returns : goal.returns
 returns c =
-    let a = c.add-longer in
+    let a = c.add in
     ends_line c.args.i a.result c.all_ready.result c.args.bytes.now c.args.marks.now a.new.bytes a.new.marks end_of_file
     c.requires a.ensures c.all_ready.ensures

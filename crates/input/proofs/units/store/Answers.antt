@@ -9,8 +9,8 @@ returns-then-canonical c =
     stores_current c.args.i a.result c.args.bytes.now c.args.marks.now a.new.bytes a.new.marks (unit_of c.args.u)
     c.requires.same c.requires.within a.ensures c.args.canonical c.if-canonical.true
 
-pub returns : goal.returns
-returns c =
+pub returns-else-canonical : goal.returns-else-canonical
+returns-else-canonical c =
     let a = c.add_unit-longer in
     stores_finished c.args.i a.result c.args.bytes.now c.args.marks.now a.new.bytes a.new.marks (unit_of c.args.u)
     c.requires.same c.requires.within a.ensures c.args.canonical c.all_ready.result c.if-canonical.false c.all_ready.ensures

@@ -1,6 +1,0 @@
--- `input::ends` meets its contract, which is its test. Assumes nothing.
-use mathlib.Core.Path.{refl}
-use Rattle.input.proofs.ends.Goals as goal
-
-pub returns : goal.returns
-returns c = refl

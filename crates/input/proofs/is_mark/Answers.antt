@@ -1,6 +1,0 @@
--- `input::is_mark` meets its contract, which is its test. Assumes nothing.
-use mathlib.Core.Path.{refl}
-use Rattle.input.proofs.is_mark.Goals as goal
-
-pub returns : goal.returns
-returns c = refl

@@ -1,6 +1,0 @@
--- `input::silent` meets its contract, which is its test. Assumes nothing.
-use mathlib.Core.Path.{refl}
-use Rattle.input.proofs.silent.Goals as goal
-
-pub returns : goal.returns
-returns c = refl
