@@ -7,7 +7,7 @@ ghost use Rattle.rules.specs.Verdicts as rule;
 use port::{Answered, Port};
 use rules::{Call, Group, Outcome, Process, Refusal, Verdict};
 
-fn with_group(p: Port, foreground: Group) -> Port
+fn with_group(p: Port, foreground: Option<Group>) -> Port
     ensures { result ≡ with_group p foreground }
 {
     Port {

@@ -19,63 +19,44 @@ pub fn too_large(group: u32) -> bool
 }
 
 // 'a foreground group: none, or a number .. with an orphaned mark'; 0 sets none
-pub fn group_of(group: u32, orphaned: bool) -> Group
+pub fn group_of(group: u32, orphaned: bool) -> Option<Group>
     ensures { result ≡ rule.group_on (eqb group 0) group orphaned }
 {
     if group == 0 {
-        return Group::Nobody;
-    }
-    Group::Number {
-        number: group,
-        orphaned,
+        None
+    } else {
+        Some(Group {
+            number: group,
+            orphaned,
+        })
     }
 }
 
 // 'INT, QUIT and TSTP go to the foreground group; with none, no signal is reported, nor TSTP for an orphaned group.' 'HUP
 // goes to the controlling process.'
-pub fn reported(signal: Signal, foreground: Group) -> Outcome
+pub fn reported(signal: Signal, foreground: Option<Group>) -> Outcome
     ensures { result ≡ received.reported signal foreground }
 {
-    match signal {
-        Signal::Int => match foreground {
-            Group::Nobody => Outcome::Ok,
-            Group::Number { .. } => Outcome::Reports(Signal::Int),
-        },
-        Signal::Quit => match foreground {
-            Group::Nobody => Outcome::Ok,
-            Group::Number { .. } => Outcome::Reports(Signal::Quit),
-        },
-        Signal::Tstp => match foreground {
-            Group::Nobody => Outcome::Ok,
-            Group::Number { orphaned, .. } => {
-                if orphaned {
-                    return Outcome::Ok;
-                }
-                Outcome::Reports(Signal::Tstp)
-            }
-        },
-        Signal::Hup => Outcome::Reports(Signal::Hup),
+    match (signal, foreground) {
+        (Signal::Hup, _) => Outcome::Reports(signal),
+        (_, None) => Outcome::Ok,
+        (Signal::Tstp, Some(Group { orphaned: true, .. })) => Outcome::Ok,
+        _ => Outcome::Reports(signal),
     }
 }
 
 // 'in the foreground group'
-fn in_foreground(foreground: Group, group: u32) -> bool
+fn in_foreground(foreground: Option<Group>, group: u32) -> bool
     ensures { result ≡ rule.in_foreground foreground group }
 {
-    match foreground {
-        Group::Nobody => false,
-        Group::Number { number, .. } => number == group,
-    }
+    foreground.is_some_and(|g| g.number == group)
 }
 
 // 'Not the controlling terminal, or in the foreground group'
-fn free(foreground: Group, who: Process) -> bool
+fn free(foreground: Option<Group>, who: Process) -> bool
     ensures { result ≡ rule.free foreground who }
 {
-    if who.controlling {
-        return in_foreground(foreground, who.group);
-    }
-    true
+    !who.controlling || in_foreground(foreground, who.group)
 }
 
 // the signal is 'ignored or blocked'
@@ -86,39 +67,33 @@ fn deaf(who: Process) -> bool
 }
 
 // 'A background read: EIO if TTIN is ignored or blocked or the group is orphaned; else TTIN to the group.'
-pub fn read_verdict(foreground: Group, who: Process) -> Verdict
+pub fn read_verdict(foreground: Option<Group>, who: Process) -> Verdict
     ensures { result ≡ rule.read_verdict foreground who }
 {
     if free(foreground, who) {
-        return Verdict::Allowed;
+        Verdict::Allowed
+    } else if deaf(who) || who.orphaned {
+        Verdict::Eio
+    } else {
+        Verdict::Ttin
     }
-    if deaf(who) || who.orphaned {
-        return Verdict::Eio;
-    }
-    Verdict::Ttin
 }
 
 // 'A background write: allowed if TOSTOP is clear or TTOU ignored or blocked; else EIO if orphaned; else TTOU.'
-pub fn write_verdict(tostop: bool, foreground: Group, who: Process) -> Verdict
+pub fn write_verdict(tostop: bool, foreground: Option<Group>, who: Process) -> Verdict
     ensures { result ≡ rule.write_verdict tostop foreground who }
 {
-    if free(foreground, who) {
-        return Verdict::Allowed;
+    if free(foreground, who) || !tostop || deaf(who) {
+        Verdict::Allowed
+    } else if who.orphaned {
+        Verdict::Eio
+    } else {
+        Verdict::Ttou
     }
-    if !tostop {
-        return Verdict::Allowed;
-    }
-    if deaf(who) {
-        return Verdict::Allowed;
-    }
-    if who.orphaned {
-        return Verdict::Eio;
-    }
-    Verdict::Ttou
 }
 
 // 'Changing settings: as a write with TOSTOP set.'
-pub fn settings_verdict(foreground: Group, who: Process) -> Verdict
+pub fn settings_verdict(foreground: Option<Group>, who: Process) -> Verdict
     ensures { result ≡ rule.settings_verdict foreground who }
 {
     write_verdict(true, foreground, who)

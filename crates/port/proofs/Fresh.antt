@@ -7,7 +7,7 @@ use mathlib.Core.List.{List, [], ◌∷◌, reverse}
 use lib.ListN.{length, take, drop}
 use Rattle.queue.specs.Queue.{held as held_in, laid}
 use Rattle.queue.proofs.Laws.{held_length}
-use Rattle.rules.specs.declared.Group.TheVariants.{Nobody}
+use Rattle.std.specs.Prelude.{None}
 use Rattle.rules.specs.declared.Waiting.TheVariants.{Idle}
 use Rattle.rules.specs.Settings.{defaults, fresh}
 use Rattle.input.specs.Contract as input
@@ -33,7 +33,7 @@ fresh_state bs ms os =
         literal_next = false;
       };
       output = record { queue = o; column = 0; stopped = false };
-      foreground = Nobody;
+      foreground = None;
       hung_up = false;
       waiting = Idle;
     }) (none (place_bytes bs ms)) (none os)

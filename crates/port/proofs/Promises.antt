@@ -7,6 +7,7 @@ use Prim.Native.Nat.{ℕ, ◌≤◌, min}
 use native.Mathlib.Omega.{arith}
 use lib.ListN.{length, take, drop, length-append, take-append-drop}
 use Rattle.rules.specs.declared.Answer.{Answer}
+use Rattle.std.specs.Prelude.{Option}
 use Rattle.rules.specs.declared.Group.{Group}
 use Rattle.rules.specs.declared.Settings.{Settings}
 use Rattle.rules.specs.declared.Waiting.{Waiting}
@@ -65,7 +66,7 @@ followed : (i r : Input) (bs ms bs' ms' : List ℕ) (w : RuledInput) → length 
 followed i r bs ms bs' ms' w e (grown u es) le b = get_grown i bs ms w e u r bs' ms' es le b
 followed i r bs ms bs' ms' w e (fewer k es) le b = get_fewer i bs ms w e k es r bs' ms' b
 
-pub same_state : (x x' : Settings) (i i' : RuledInput) (o o' : RuledOutput) (g g' : Group) (h h' : Bool) (t t' : Waiting)
+pub same_state : (x x' : Settings) (i i' : RuledInput) (o o' : RuledOutput) (g g' : Option Group) (h h' : Bool) (t t' : Waiting)
     → x ≡ x' → i ≡ i' → o ≡ o' → g ≡ g' → h ≡ h' → t ≡ t'
     → ◌≡◌ {A = State} (record { settings = x; input = i; output = o; foreground = g; hung_up = h; waiting = t })
     (record { settings = x'; input = i'; output = o'; foreground = g'; hung_up = h'; waiting = t' })

@@ -1,5 +1,5 @@
 -- What the calls promise: the answer, the port and every byte of the slices, by the rules' `step` at the state that `get` reads.
-use Rattle.std.specs.Prelude.{ℕ, ◌≡◌, Bool, true, false, List, take, drop}
+use Rattle.std.specs.Prelude.{ℕ, ◌≡◌, Bool, true, false, List, take, drop, Option}
 use Rattle.rules.specs.declared.Call.{Call}
 use Rattle.rules.specs.declared.Group.{Group}
 use Rattle.rules.specs.Sizes.{State}
@@ -43,7 +43,7 @@ abbrev pub ranged : Port → ℕ → ℕ → Port
 ranged p n m = assembled p (input.fitted n p.input) (in_range m p.output) p.waiting
 
 -- the port with another foreground group
-abbrev pub with_group : Port → Group → Port
+abbrev pub with_group : Port → Option Group → Port
 with_group p g =
     record { settings = p.settings; line = p.line; input = p.input; output = p.output; foreground = g; hung = p.hung; waiting = p.waiting }
 

@@ -1,7 +1,7 @@
 -- What the calls on the output promise: the answer, the port and every byte of the slices, by the rules. A write and a
 -- transmit are lent the output's slice alone, so the rules are asked at a state whose input is empty; `for_any_input` and
 -- `transmits_for_any_input` in crates/discipline/proofs/sending/Promises.antt say that they answer the same at every input.
-use Rattle.std.specs.Prelude.{ℕ, ◌+◌, ◌%◌, Bool, true, false, cond, List, [], length}
+use Rattle.std.specs.Prelude.{ℕ, ◌+◌, ◌%◌, Bool, true, false, cond, List, [], length, None}
 use Rattle.queue.specs.Ring.{stores}
 use Rattle.rules.specs.declared.Answer.{Answer}
 use Rattle.rules.specs.declared.Outcome.{Outcome}
@@ -15,7 +15,6 @@ use Rattle.port.specs.declared.Port.{Port}
 use Rattle.port.specs.declared.Answered.{Answered}
 use Rattle.queue.specs.Queue.{laid}
 use Rattle.rules.specs.Settings.{defaults}
-use Rattle.rules.specs.declared.Group.TheVariants.{Nobody}
 use Rattle.rules.specs.declared.Waiting.TheVariants.{Idle}
 
 abbrev pub is_refusal : Outcome → Bool
@@ -77,7 +76,7 @@ fresh =
       line = 254;
       input = record { queue = laid 0 []; ready = 0; literal = false };
       output = record { queue = laid 0 []; column = 0; stopped = false };
-      foreground = Nobody;
+      foreground = None;
       hung = false;
       waiting = Idle;
     }

@@ -19,7 +19,7 @@ pub struct Port {
     pub line: usize,
     pub input: Input,
     pub output: Output,
-    pub foreground: Group,
+    pub foreground: Option<Group>,
     pub hung: bool,
     pub waiting: Waiting,
 }
@@ -50,7 +50,7 @@ impl Port {
             line: Port::LINE,
             input: input,
             output: output,
-            foreground: Group::Nobody,
+            foreground: None,
             hung: false,
             waiting: Waiting::Idle,
         }

@@ -1,5 +1,5 @@
 -- What the functions of a port promise: the state of the rules after it, every byte of the slices, and what is reported.
-use Rattle.std.specs.Prelude.{Bool, false, not, ◌&&◌, true, ℕ, ◌≡◌, List, length}
+use Rattle.std.specs.Prelude.{Bool, false, not, ◌&&◌, true, ℕ, ◌≡◌, List, length, Option}
 use Rattle.rules.specs.declared.Settings.{Settings}
 use Rattle.port.specs.declared.Port.{Port}
 use Rattle.port.specs.Layers.{assembled, Becomes, state, sizes_of}
@@ -35,7 +35,7 @@ abbrev pub Reports : Port → List ℕ → List ℕ → List ℕ → (Sizes → 
 Reports p bs ms os f r bs' ms' os' = Answers p bs ms os (f (sizes_of p (length bs) (length os)) (state p bs ms os)) r bs' ms' os'
 
 -- what is reported of a meaning where f is the foreground group
-abbrev pub Tells : Meaning → Group → Outcome → Type 0
+abbrev pub Tells : Meaning → Option Group → Outcome → Type 0
 Tells m f r = (z : Sizes) (s : State) (x : Settings) → s.foreground ≡ f → r ≡ (carry z s (meaning_of x m)).1
 
 ---- What a hangup and an interrupt promise

@@ -78,7 +78,7 @@ pub struct Reported {
 }
 
 // what is reported of a meaning
-fn tells(meaning: Meaning, foreground: Group) -> Outcome
+fn tells(meaning: Meaning, foreground: Option<Group>) -> Outcome
     ensures { Tells meaning foreground result }
 {
     match meaning {
@@ -123,7 +123,7 @@ fn quiet(p: Port) -> Reported
 }
 
 // a signal goes to the foreground group, HUP to the controlling process
-fn reports(p: Port, signal: Signal, foreground: Group) -> Reported
+fn reports(p: Port, signal: Signal, foreground: Option<Group>) -> Reported
     ensures { result ≡ record { port = p; outcome = steps.reported signal foreground } }
 {
     let outcome = jobs::reported(signal, foreground);

@@ -1,7 +1,7 @@
 -- Document 01, 'Received events'.
-use Rattle.std.specs.Prelude.{ℕ, ◌-◌, ◌%◌, Bool, true, false, not, ◌&&◌, ◌||◌, cond, List, [], ◌∷◌, eqb}
+use Rattle.std.specs.Prelude.{ℕ, ◌-◌, ◌%◌, Bool, true, false, not, ◌&&◌, ◌||◌, cond, List, [], ◌∷◌, eqb, Option, None, Some}
 use Rattle.rules.specs.Types.{Settings, Event, Good, Parity, Framing, Break, Tick, Hangup, Signal, Int, Quit, Tstp, Hup, Outcome, Ok, Reports}
-use Rattle.rules.specs.Types.{Group, Nobody, Number, Waiting, Idle, Untimed, Timed}
+use Rattle.rules.specs.Types.{Group, Waiting, Idle, Untimed, Timed}
 use Rattle.rules.specs.Sizes.{Sizes, Place, State, unit, delimiter, end_of_file, with_input, with_output, with_waiting, with_literal_next, with_stopped}
 use Rattle.rules.specs.Settings.{is}
 use Rattle.rules.specs.Flushing.{flush_both}
@@ -80,14 +80,13 @@ step3 x false b = step4 x b
 
 -- 'INT, QUIT and TSTP go to the foreground group; with none, no signal is reported, nor TSTP for an orphaned group.'
 -- 'HUP goes to the controlling process.'
-abbrev pub reported : Signal → Group → Outcome
-reported Int Nobody = Ok
-reported Int (Number n orphaned) = Reports Int
-reported Quit Nobody = Ok
-reported Quit (Number n orphaned) = Reports Quit
-reported Tstp Nobody = Ok
-reported Tstp (Number n true) = Ok
-reported Tstp (Number n false) = Reports Tstp
+abbrev pub reported : Signal → Option Group → Outcome
+reported Int None = Ok
+reported Int (Some g) = Reports Int
+reported Quit None = Ok
+reported Quit (Some g) = Reports Quit
+reported Tstp None = Ok
+reported Tstp (Some g) = cond g.orphaned Ok (Reports Tstp)
 reported Hup g = Reports Hup
 
 -- 'Both queues are flushed unless NOFLSH.'

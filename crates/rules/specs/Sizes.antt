@@ -1,6 +1,6 @@
 -- Document 01, 'A port and its sizes': the state that the rules speak of.
-use Rattle.std.specs.Prelude.{ℕ, ◌+◌, Bool, true, false, List, [], ◌∷◌, map, length}
-use Rattle.rules.specs.Types.{Settings, Group, Nobody, Waiting, Idle}
+use Rattle.std.specs.Prelude.{ℕ, ◌+◌, Bool, true, false, List, [], ◌∷◌, map, length, Option, None}
+use Rattle.rules.specs.Types.{Settings, Group, Waiting, Idle}
 
 -- The sizes are a parameter of every rule that depends on them.
 pub record Sizes : Type 0 where
@@ -37,7 +37,7 @@ pub record State : Type 0 where
   pub settings : Settings
   pub input : Input
   pub output : Output
-  pub foreground : Group
+  pub foreground : Option Group
   pub hung_up : Bool
   pub waiting : Waiting
 
@@ -48,7 +48,7 @@ fresh_with x =
       settings = x;
       input = record { finished = []; current = []; literal_next = false };
       output = record { queue = []; column = 0; stopped = false };
-      foreground = Nobody;
+      foreground = None;
       hung_up = false;
       waiting = Idle;
     }
@@ -86,7 +86,7 @@ abbrev pub with_waiting : State → Waiting → State
 with_waiting s w =
     record { settings = s.settings; input = s.input; output = s.output; foreground = s.foreground; hung_up = s.hung_up; waiting = w }
 
-abbrev pub with_foreground : State → Group → State
+abbrev pub with_foreground : State → Option Group → State
 with_foreground s g =
     record { settings = s.settings; input = s.input; output = s.output; foreground = g; hung_up = s.hung_up; waiting = s.waiting }
 

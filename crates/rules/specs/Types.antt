@@ -16,7 +16,6 @@ pub use Rattle.rules.specs.declared.Outcome.{Outcome}
 pub use Rattle.rules.specs.declared.Outcome.TheVariants.{Ok, Wait, Reports, Judged, Refused}
 pub use Rattle.rules.specs.declared.Answer.{Answer}
 pub use Rattle.rules.specs.declared.Group.{Group}
-pub use Rattle.rules.specs.declared.Group.TheVariants.{Nobody, Number}
 pub use Rattle.rules.specs.declared.Timer.{Timer}
 pub use Rattle.rules.specs.declared.Waiting.{Waiting}
 pub use Rattle.rules.specs.declared.Waiting.TheVariants.{Idle, Untimed, Timed}

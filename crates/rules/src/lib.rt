@@ -136,11 +136,11 @@ pub struct Answer {
     pub count: usize,
 }
 
-// The foreground group: none, or a number with its orphaned mark.
+// The foreground group, where there is one: 'a number .. with an orphaned mark'.
 #[derive(Clone, Copy)]
-pub enum Group {
-    Nobody,
-    Number { number: u32, orphaned: bool },
+pub struct Group {
+    pub number: u32,
+    pub orphaned: bool,
 }
 
 // The tenths of a second that a timer has left; at 0 it has expired.

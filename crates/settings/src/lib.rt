@@ -2,7 +2,7 @@
 
 #![tactic(auto)]
 
-ghost use Rattle.std.specs.Prelude.{◌≡◌, not};
+ghost use Rattle.std.specs.Prelude.{◌≡◌, ◌<◌, ◌/◌, ◌%◌, eqb, not};
 ghost use Rattle.rules.specs.Settings.{settings_of, «defaults», «characters», «is», elem, enabled_of, distinct, «acceptable»};
 ghost use Rattle.rules.specs.Trace.{bit_of};
 
@@ -73,43 +73,51 @@ pub const TOSTOP: u32 = 1073741824;
 
 pub const NOFLSH: u32 = 2147483648;
 
+// the flag is set in flags
+fn set_in(flags: u32, flag: u32) -> bool
+    requires { 0 < flag }
+    ensures { result ≡ eqb (flags / flag % 2) 1 }
+{
+    flags / flag % 2 == 1
+}
+
 // The settings that 32 flags and 15 values mean.
 pub fn settings_of(flags: u32, values: [u8; 15]) -> Settings
     ensures { result ≡ settings_of (bit_of flags) values }
 {
     Settings {
-        ignbrk: flags / IGNBRK % 2 == 1,
-        brkint: flags / BRKINT % 2 == 1,
-        ignpar: flags / IGNPAR % 2 == 1,
-        parmrk: flags / PARMRK % 2 == 1,
-        inpck: flags / INPCK % 2 == 1,
-        istrip: flags / ISTRIP % 2 == 1,
-        inlcr: flags / INLCR % 2 == 1,
-        igncr: flags / IGNCR % 2 == 1,
-        icrnl: flags / ICRNL % 2 == 1,
-        ixon: flags / IXON % 2 == 1,
-        ixany: flags / IXANY % 2 == 1,
-        imaxbel: flags / IMAXBEL % 2 == 1,
-        opost: flags / OPOST % 2 == 1,
-        onlcr: flags / ONLCR % 2 == 1,
-        ocrnl: flags / OCRNL % 2 == 1,
-        tab3: flags / TAB3 % 2 == 1,
-        onoeot: flags / ONOEOT % 2 == 1,
-        onocr: flags / ONOCR % 2 == 1,
-        onlret: flags / ONLRET % 2 == 1,
-        clocal: flags / CLOCAL % 2 == 1,
-        echo: flags / ECHO % 2 == 1,
-        echoe: flags / ECHOE % 2 == 1,
-        echok: flags / ECHOK % 2 == 1,
-        echoke: flags / ECHOKE % 2 == 1,
-        echonl: flags / ECHONL % 2 == 1,
-        echoctl: flags / ECHOCTL % 2 == 1,
-        isig: flags / ISIG % 2 == 1,
-        icanon: flags / ICANON % 2 == 1,
-        altwerase: flags / ALTWERASE % 2 == 1,
-        iexten: flags / IEXTEN % 2 == 1,
-        tostop: flags / TOSTOP % 2 == 1,
-        noflsh: flags / NOFLSH % 2 == 1,
+        ignbrk: set_in(flags, IGNBRK),
+        brkint: set_in(flags, BRKINT),
+        ignpar: set_in(flags, IGNPAR),
+        parmrk: set_in(flags, PARMRK),
+        inpck: set_in(flags, INPCK),
+        istrip: set_in(flags, ISTRIP),
+        inlcr: set_in(flags, INLCR),
+        igncr: set_in(flags, IGNCR),
+        icrnl: set_in(flags, ICRNL),
+        ixon: set_in(flags, IXON),
+        ixany: set_in(flags, IXANY),
+        imaxbel: set_in(flags, IMAXBEL),
+        opost: set_in(flags, OPOST),
+        onlcr: set_in(flags, ONLCR),
+        ocrnl: set_in(flags, OCRNL),
+        tab3: set_in(flags, TAB3),
+        onoeot: set_in(flags, ONOEOT),
+        onocr: set_in(flags, ONOCR),
+        onlret: set_in(flags, ONLRET),
+        clocal: set_in(flags, CLOCAL),
+        echo: set_in(flags, ECHO),
+        echoe: set_in(flags, ECHOE),
+        echok: set_in(flags, ECHOK),
+        echoke: set_in(flags, ECHOKE),
+        echonl: set_in(flags, ECHONL),
+        echoctl: set_in(flags, ECHOCTL),
+        isig: set_in(flags, ISIG),
+        icanon: set_in(flags, ICANON),
+        altwerase: set_in(flags, ALTWERASE),
+        iexten: set_in(flags, IEXTEN),
+        tostop: set_in(flags, TOSTOP),
+        noflsh: set_in(flags, NOFLSH),
         eof: values[0],
         eol: values[1],
         eol2: values[2],
@@ -138,18 +146,18 @@ pub const DEFAULTS: [u8; 15] = [
 
 // 'Flags set by default'.
 pub const DEFAULT_FLAGS: u32 = BRKINT
-    + ICRNL
-    + IXON
-    + IMAXBEL
-    + OPOST
-    + ONLCR
-    + ECHO
-    + ECHOE
-    + ECHOKE
-    + ECHOCTL
-    + ISIG
-    + ICANON
-    + IEXTEN;
+    | ICRNL
+    | IXON
+    | IMAXBEL
+    | OPOST
+    | ONLCR
+    | ECHO
+    | ECHOE
+    | ECHOKE
+    | ECHOCTL
+    | ISIG
+    | ICANON
+    | IEXTEN;
 
 // The settings of a fresh port.
 pub fn defaults() -> Settings
@@ -175,37 +183,23 @@ pub fn is(b: u8, special: u8) -> bool
     b == special && special != DISABLED
 }
 
-// Two enabled special characters are equal.
-fn paired(specials: &[u8]) -> bool
-    ensures { result ≡ not (distinct (enabled_of specials.now)) }
-{
-    let mut found = false;
-    let mut at = 0;
-    'pairs: while at < specials.len() {
-        let b = specials[at];
-        let mut k = at + 1;
-        while k < specials.len() {
-            if is(b, specials[k]) {
-                found = true;
-                break 'pairs;
-            }
-            k += 1;
-        }
-        at += 1;
-    }
-    found
-}
-
 // b is an enabled special character.
 fn has(specials: &[u8], b: u8) -> bool
     ensures { result ≡ elem b (enabled_of specials.now) }
 {
-    let mut k = 0;
-    while k < specials.len() {
-        if is(b, specials[k]) {
+    specials.iter().any(|c| is(b, *c))
+}
+
+// Two enabled special characters are equal.
+fn paired(specials: &[u8]) -> bool
+    ensures { result ≡ not (distinct (enabled_of specials.now)) }
+{
+    let mut rest = specials;
+    while let Some((b, others)) = rest.split_first() {
+        if has(others, *b) {
             return true;
         }
-        k += 1;
+        rest = others;
     }
     false
 }
@@ -215,11 +209,5 @@ pub fn acceptable(x: Settings) -> bool
     ensures { result ≡ «acceptable» x }
 {
     let specials = characters(x);
-    if paired(&specials) {
-        return false;
-    }
-    if has(&specials, 10) {
-        return false;
-    }
-    !has(&specials, 13)
+    !paired(&specials) && !has(&specials, 10) && !has(&specials, 13)
 }

@@ -17,10 +17,7 @@ use rules::{Settings, Timer, Waiting};
 fn one_less(left: u8) -> u8
     ensures { result ≡ left - 1 }
 {
-    if left == 0 {
-        return 0;
-    }
-    left - 1
+    left.saturating_sub(1)
 }
 
 // The timer a tenth of a second later, where it is lent.
@@ -31,12 +28,11 @@ fn tick(timer: &mut Timer)
 }
 
 // The same by value: the timer is lent to `tick`.
-fn lower(timer: Timer) -> Timer
+fn lower(mut timer: Timer) -> Timer
     ensures { result ≡ record { left = timer.left - 1 } }
 {
-    let mut lent = timer;
-    tick(&mut lent);
-    lent
+    tick(&mut timer);
+    timer
 }
 
 // 'While a read waits, each tenth of a second lowers it by one.'
@@ -44,33 +40,25 @@ pub fn lowered(w: Waiting) -> Waiting
     ensures { result ≡ received.lowered w }
 {
     match w {
-        Waiting::Idle => Waiting::Idle,
-        Waiting::Untimed { count } => Waiting::Untimed { count },
         Waiting::Timed { count, timer } => Waiting::Timed {
             count,
             timer: lower(timer),
         },
+        _ => w,
     }
 }
 
 pub fn expired(w: Waiting) -> bool
     ensures { result ≡ read.expired w }
 {
-    match w {
-        Waiting::Idle => false,
-        Waiting::Untimed { count: _ } => false,
-        Waiting::Timed { count: _, timer } => timer.left == 0,
-    }
+    matches!(w, Waiting::Timed { timer, .. } if timer.left == 0)
 }
 
 // The timer of 'MIN and TIME above 0' is the one in force: it runs between bytes.
 pub fn between_bytes(x: Settings) -> bool
     ensures { result ≡ flushing.between_bytes x }
 {
-    if x.icanon {
-        return false;
-    }
-    x.min > 0 && x.time > 0
+    !x.icanon && x.min > 0 && x.time > 0
 }
 
 // 'An input flush turns this timer off, expired or not, until the next unit.' The timer of MIN 0: 'no flush touches it'.
@@ -78,14 +66,8 @@ pub fn timer_flushed(between: bool, w: Waiting) -> Waiting
     ensures { result ≡ flushing.timer_flushed between w }
 {
     match w {
-        Waiting::Idle => Waiting::Idle,
-        Waiting::Untimed { count } => Waiting::Untimed { count },
-        Waiting::Timed { count, timer: _ } => {
-            if between {
-                return Waiting::Untimed { count };
-            }
-            w
-        }
+        Waiting::Timed { count, .. } if between => Waiting::Untimed { count },
+        _ => w,
     }
 }
 
@@ -104,9 +86,10 @@ fn restarted(x: Settings, count: usize, timer: Timer) -> Waiting
     ensures { result ≡ fit.restarted_on (eqb timer.left 0) x count timer }
 {
     if timer.left == 0 {
-        return Waiting::Timed { count, timer };
+        Waiting::Timed { count, timer }
+    } else {
+        started(x, count)
     }
-    started(x, count)
 }
 
 // A unit is stored.
@@ -114,19 +97,9 @@ pub fn timer_stored(between: bool, x: Settings, w: Waiting) -> Waiting
     ensures { result ≡ fit.timer_stored between x w }
 {
     match w {
-        Waiting::Idle => Waiting::Idle,
-        Waiting::Untimed { count } => {
-            if between {
-                return started(x, count);
-            }
-            Waiting::Untimed { count }
-        }
-        Waiting::Timed { count, timer } => {
-            if between {
-                return restarted(x, count, timer);
-            }
-            Waiting::Timed { count, timer }
-        }
+        Waiting::Untimed { count } if between => started(x, count),
+        Waiting::Timed { count, timer } if between => restarted(x, count, timer),
+        _ => w,
     }
 }
 
@@ -136,8 +109,7 @@ pub fn clashes(w: Waiting, nonblocking: bool, n: usize) -> bool
 {
     match w {
         Waiting::Idle => false,
-        Waiting::Untimed { count } => nonblocking || count != n,
-        Waiting::Timed { count, timer: _ } => nonblocking || count != n,
+        Waiting::Untimed { count } | Waiting::Timed { count, .. } => nonblocking || count != n,
     }
 }
 
@@ -145,17 +117,7 @@ pub fn clashes(w: Waiting, nonblocking: bool, n: usize) -> bool
 pub fn a_read_waits(w: Waiting) -> bool
     ensures { result ≡ step.a_read_waits w }
 {
-    match w {
-        Waiting::Idle => false,
-        Waiting::Untimed { count: _ } => true,
-        Waiting::Timed { count: _, timer: _ } => true,
-    }
-}
-
-fn wide(b: u8) -> usize
-    ensures { result ≡ b }
-{
-    b as usize
+    !matches!(w, Waiting::Idle)
 }
 
 // 'Noncanonical, n requested: done when min(MIN, n) bytes are stored, or, for MIN 0, when one is. MIN and TIME both 0: at
@@ -164,9 +126,10 @@ pub fn enough(x: Settings, n: usize, stored: usize) -> bool
     ensures { result ≡ read.enough x n stored }
 {
     if x.min == 0 {
-        return x.time == 0 || stored > 0;
+        x.time == 0 || stored > 0
+    } else {
+        usize::from(x.min).min(n) <= stored
     }
-    queue::least(wide(x.min), n) <= stored
 }
 
 // MIN 0, or a byte is stored
@@ -181,16 +144,11 @@ fn starts(x: Settings, stored: usize) -> bool
 pub fn begins(x: Settings, stored: usize, n: usize) -> Waiting
     ensures { (ps : List Place) → length ps ≡ stored → result ≡ read.begins x ps n }
 {
-    if x.icanon {
-        return Waiting::Untimed { count: n };
+    if !x.icanon && x.time > 0 && starts(x, stored) {
+        started(x, n)
+    } else {
+        Waiting::Untimed { count: n }
     }
-    if x.time == 0 {
-        return Waiting::Untimed { count: n };
-    }
-    if starts(x, stored) {
-        return started(x, n);
-    }
-    Waiting::Untimed { count: n }
 }
 
 // A poll of the waiting read leaves it as it is.
@@ -199,7 +157,6 @@ pub fn waits(new: Waiting, old: Waiting) -> Waiting
 {
     match old {
         Waiting::Idle => new,
-        Waiting::Untimed { count } => Waiting::Untimed { count },
-        Waiting::Timed { count, timer } => Waiting::Timed { count, timer },
+        _ => old,
     }
 }
