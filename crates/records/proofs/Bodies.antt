@@ -1,4 +1,5 @@
 -- Each kind's record by the length of its body and by its bytes. Assumes nothing.
+use Rattle.std.specs.Prelude.{Some}
 use Prim.Native.Nat.{ℕ, suc, ◌<◌}
 use mathlib.Core.Path.{◌≡◌, refl, ap, sym, ◌∙◌}
 use mathlib.Core.Bool.{Bool, true, false, ◌&&◌, cond}
@@ -17,7 +18,6 @@ use Rattle.rules.specs.Trace.{settings_record, byte_record, empty_record}
 use Rattle.rules.specs.Trace.{read_record, transmit_record, flush_record, foreground_record}
 use Rattle.records.specs.Bodies.{count, number}
 use Rattle.records.specs.Records.{told}
-use Rattle.records.specs.declared.Decoded.TheVariants.{WellFormed}
 
 -- longer than the n bytes that the record has
 longer : (n : ℕ) (l : List ℕ) (x : Decoded) → n < length l → malformed ≡ cond (eqb (length l) n) x malformed
@@ -86,5 +86,5 @@ settings_by (a ∷ b ∷ c ∷ d ∷ l) =
     ∙ ap (λ (t : Bool). cond t (asks (Set (settings_of (bit_of (number (a ∷ b ∷ c ∷ d ∷ l))) l)) []) malformed) (four_more (length l) 15)
 
 pub settings_told : (l v : List ℕ) (n : ℕ) (x : Settings) → length l ≡ 19 → v ≡ drop 4 l → n ≡ number l → x ≡ settings_of (bit_of n) v
-    → WellFormed (Set x) 0 ≡ told (settings_record l)
+    → Some (record { call = Set x; lent = 0 }) ≡ told (settings_record l)
 settings_told l v n x h e f g = rw (g, e, f, settings_by l, eq-eqb (length l) 19 h)

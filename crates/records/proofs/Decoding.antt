@@ -1,4 +1,5 @@
 -- From the records of each kind to `decode`; the call and the count of the lent bytes say what is lent. Assumes nothing.
+use Rattle.std.specs.Prelude.{Option}
 use Prim.Native.Nat.{ℕ, zero, suc, ◌≤◌}
 use mathlib.Core.Path.{◌≡◌, refl, ap, sym, ◌∙◌}
 use mathlib.Core.Bool.{Bool, true, false, ◌&&◌, cond}
@@ -19,7 +20,7 @@ use Rattle.rules.specs.Trace.{byte_record, empty_record, read_record}
 use Rattle.rules.specs.Trace.{write_record, transmit_record, flush_record, foreground_record, decode}
 use Rattle.records.specs.Bodies.{count, number}
 use Rattle.records.specs.Records.{Decodes, told, meant}
-use Rattle.records.specs.declared.Decoded as ours
+use Rattle.records.specs.declared.Asked as ours
 use Rattle.records.proofs.Bodies.{settings_by, byte_by, empty_by, read_by, transmit_by, flush_by, foreground_by}
 
 ---- What is lent
@@ -100,17 +101,17 @@ fair kind l =
 
 ---- The answer
 
-pub decodes : (kind k : ℕ) (l : List ℕ) {r : ours.Decoded} → kind ≡ k → r ≡ told (decode k l) → Decodes kind l r
+pub decodes : (kind k : ℕ) (l : List ℕ) {r : Option ours.Asked} → kind ≡ k → r ≡ told (decode k l) → Decodes kind l r
 decodes kind k l {r} e h =
     let t : r ≡ told (decode kind l) = h ∙ ap (λ (n : ℕ). told (decode n l)) (sym e) in
-    record { tells = t; means = ap (λ (x : ours.Decoded). meant x l) t ∙ fair kind l }
+    record { tells = t; means = ap (λ (x : Option ours.Asked). meant x l) t ∙ fair kind l }
 
-pub byte_told : (e : ℕ → Event) (l : List ℕ) {b : ℕ} {r : ours.Decoded} → b ≡ get_or l 0 0
+pub byte_told : (e : ℕ → Event) (l : List ℕ) {b : ℕ} {r : Option ours.Asked} → b ≡ get_or l 0 0
     → r ≡ told (cond (eqb (length l) 1) (asks (Receive (e b)) []) malformed) → r ≡ told (byte_record e l)
 byte_told e l f h =
     h ∙ ap (λ (n : ℕ). told (cond (eqb (length l) 1) (asks (Receive (e n)) []) malformed)) f ∙ ap told (sym (byte_by e l))
 
-pub empty_told : (c : Call) (l : List ℕ) {r : ours.Decoded} → r ≡ told (cond (eqb (length l) 0) (asks c []) malformed)
+pub empty_told : (c : Call) (l : List ℕ) {r : Option ours.Asked} → r ≡ told (cond (eqb (length l) 0) (asks c []) malformed)
     → r ≡ told (empty_record c l)
 empty_told c l h = h ∙ ap told (sym (empty_by c l))
 

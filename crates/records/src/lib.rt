@@ -35,10 +35,7 @@ pub const MOST_GROUP: u32 = 2147483647;
 fn value(values: &[u8], at: usize) -> u8
     ensures { result ≡ get_or values.now at 0 }
 {
-    if at < values.len() {
-        return values[at];
-    }
-    0
+    values.get(at).copied().unwrap_or(0)
 }
 
 // A 2-byte number, 'little-endian'.
@@ -46,7 +43,7 @@ pub fn two(a: u8, b: u8) -> usize
     ensures value { result ≡ «two» a b }
     ensures upper_bound { result < 65536 }
 {
-    a as usize + 256 * (b as usize)
+    usize::from(u16::from_le_bytes([a, b]))
 }
 
 // The 2-byte number at the front of a body.
@@ -59,26 +56,27 @@ fn count_of(body: &[u8]) -> usize
 fn four(a: u8, b: u8, c: u8, d: u8) -> u32
     ensures { result ≡ «four» a b c d }
 {
-    a as u32 + 256 * (b as u32) + 65536 * (c as u32 + 256 * (d as u32))
+    u32::from_le_bytes([a, b, c, d])
 }
 
 // The 4-byte number at the front of a body.
 fn number_of(body: &[u8]) -> u32
     ensures { result ≡ number body.now }
 {
-    let a = value(body, 0);
-    let b = value(body, 1);
-    let c = value(body, 2);
-    let d = value(body, 3);
-    four(a, b, c, d)
+    four(
+        value(body, 0),
+        value(body, 1),
+        value(body, 2),
+        value(body, 3),
+    )
 }
 
 // What a record asks for, and how many bytes are lent to the call: for a write the body itself, for a read and a
 // transmit so many zeros.
 #[derive(Clone, Copy)]
-pub enum Decoded {
-    WellFormed { call: Call, lent: usize },
-    Malformed,
+pub struct Asked {
+    pub call: Call,
+    pub lent: usize,
 }
 
 // The 15 values in the table's order, each in its default's place.
@@ -86,10 +84,8 @@ fn in_places(values: &[u8]) -> [u8; VALUES]
     ensures { (k : ℕ) → k < 15 → get_or result k 0 ≡ get_or values.now k 0 }
 {
     let mut table = settings::DEFAULTS;
-    let mut k = 0;
-    while k < VALUES {
+    for k in 0..VALUES {
         table[k] = value(values, k);
-        k += 1;
     }
     table
 }
@@ -102,132 +98,98 @@ fn recorded(flags: u32, values: &[u8]) -> Settings
 }
 
 // '1 settings (4 flag bytes, 15 values)'
-fn settings_record(body: &[u8]) -> Decoded
+fn settings_record(body: &[u8]) -> Option<Asked>
     ensures { result ≡ told (settings_record body.now) }
 {
     if body.len() != SETTINGS {
-        return Decoded::Malformed;
+        return None;
     }
-    let flags = number_of(body);
-    let x = recorded(flags, &body[4..]);
-    Decoded::WellFormed {
-        call: Call::Set(x),
-        lent: 0,
-    }
+    let call = Call::Set(recorded(number_of(body), &body[4..]));
+    Some(Asked { call, lent: 0 })
 }
 
 // A body of n bytes that asks for this call: '2 good, 3 parity, 4 framing byte (1); 5 break, 6 tick, 7 hangup, 12 cancel (0)'.
-fn sized_record(body: &[u8], n: usize, call: Call) -> Decoded
+fn sized_record(body: &[u8], n: usize, call: Call) -> Option<Asked>
     ensures { result ≡ told (cond (eqb (length body.now) n) (asks call []) malformed) }
 {
     if body.len() != n {
-        return Decoded::Malformed;
+        return None;
     }
-    Decoded::WellFormed {
-        call: call,
-        lent: 0,
-    }
+    Some(Asked { call, lent: 0 })
 }
 
 // '8 read (2-byte count to 1,024, then 0 or 1 for non-blocking)'
-fn read_record(body: &[u8]) -> Decoded
+fn read_record(body: &[u8]) -> Option<Asked>
     ensures { result ≡ told (read_record body.now) }
 {
     let n = count_of(body);
     let flag = value(body, 2);
-    if body.len() != 3 {
-        return Decoded::Malformed;
+    if body.len() != 3 || n > MOST_READ || flag > 1 {
+        return None;
     }
-    if n > MOST_READ {
-        return Decoded::Malformed;
-    }
-    if flag > 1 {
-        return Decoded::Malformed;
-    }
-    Decoded::WellFormed {
-        call: Call::Read {
-            nonblocking: flag == 1,
-        },
-        lent: n,
-    }
+    let call = Call::Read {
+        nonblocking: flag == 1,
+    };
+    Some(Asked { call, lent: n })
 }
 
 // '9 write (0 to 512)'
-fn write_record(body: &[u8]) -> Decoded
+fn write_record(body: &[u8]) -> Option<Asked>
     ensures { result ≡ told (write_record body.now) }
 {
     if body.len() > MOST_WRITTEN {
-        return Decoded::Malformed;
+        return None;
     }
-    Decoded::WellFormed {
+    Some(Asked {
         call: Call::Write,
         lent: body.len(),
-    }
+    })
 }
 
 // '10 transmit (2-byte count to 2,048)'
-fn transmit_record(body: &[u8]) -> Decoded
+fn transmit_record(body: &[u8]) -> Option<Asked>
     ensures { result ≡ told (transmit_record body.now) }
 {
     let n = count_of(body);
-    if body.len() != 2 {
-        return Decoded::Malformed;
+    if body.len() != 2 || n > MOST_SENT {
+        return None;
     }
-    if n > MOST_SENT {
-        return Decoded::Malformed;
-    }
-    Decoded::WellFormed {
+    Some(Asked {
         call: Call::Transmit,
         lent: n,
-    }
+    })
 }
 
 // '11 flush (1 input, 2 output, 3 both)'
-fn flush_record(body: &[u8]) -> Decoded
+fn flush_record(body: &[u8]) -> Option<Asked>
     ensures { result ≡ told (flush_record body.now) }
 {
     let choice = value(body, 0);
-    if body.len() != 1 {
-        return Decoded::Malformed;
+    if body.len() != 1 || choice < 1 || choice > 3 {
+        return None;
     }
-    if choice < 1 {
-        return Decoded::Malformed;
-    }
-    if choice > 3 {
-        return Decoded::Malformed;
-    }
-    Decoded::WellFormed {
-        call: Call::Flush(choice),
-        lent: 0,
-    }
+    let call = Call::Flush(choice);
+    Some(Asked { call, lent: 0 })
 }
 
 // '13 foreground (4-byte group to 2,147,483,647, 0 for none; orphaned 0 or 1)'
-fn foreground_record(body: &[u8]) -> Decoded
+fn foreground_record(body: &[u8]) -> Option<Asked>
     ensures { result ≡ told (foreground_record body.now) }
 {
     let group = number_of(body);
     let orphaned = value(body, 4);
-    if body.len() != 5 {
-        return Decoded::Malformed;
+    if body.len() != 5 || group > MOST_GROUP || orphaned > 1 {
+        return None;
     }
-    if group > MOST_GROUP {
-        return Decoded::Malformed;
-    }
-    if orphaned > 1 {
-        return Decoded::Malformed;
-    }
-    Decoded::WellFormed {
-        call: Call::Foreground {
-            group: group,
-            orphaned: orphaned == 1,
-        },
-        lent: 0,
-    }
+    let call = Call::Foreground {
+        group,
+        orphaned: orphaned == 1,
+    };
+    Some(Asked { call, lent: 0 })
 }
 
 // What a record of this kind and body asks for. 'Unknown kinds, wrong lengths and other values are malformed.'
-pub fn decode(kind: usize, body: &[u8]) -> Decoded
+pub fn decode(kind: usize, body: &[u8]) -> Option<Asked>
     ensures { Decodes kind body.now result }
 {
     let b = value(body, 0);
@@ -245,6 +207,6 @@ pub fn decode(kind: usize, body: &[u8]) -> Decoded
         11 => flush_record(body),
         12 => sized_record(body, 0, Call::Cancel),
         13 => foreground_record(body),
-        _ => Decoded::Malformed,
+        _ => None,
     }
 }
