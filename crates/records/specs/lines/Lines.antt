@@ -1,5 +1,7 @@
 -- What the writers of lines promise.
-use Rattle.std.specs.Prelude.{ℕ, List, [], ◌++◌}
+use Rattle.std.specs.Prelude.{ℕ, ◌≡◌, List, [], ◌++◌}
+use Rattle.records.specs.lines.Puts.{Puts}
+use Rattle.records.specs.declared.lines.Line.{Line}
 use Rattle.rules.specs.declared.Answer.{Answer}
 use Rattle.rules.specs.declared.Refusal.{Refusal}
 use Rattle.rules.specs.Refusals.{Reply, number_of}
@@ -16,3 +18,8 @@ line_of index kind a given = line index kind (reply_of a given)
 
 abbrev pub refusal_word : Refusal → List ℕ
 refusal_word r = text "r" ++ decimal (number_of r)
+
+-- the text t laid behind what the line l has
+pub record Lays (l : Line) (t : List ℕ) (m : Line) : Type 0 where
+  pub same : m.buffer.ghost_name ≡ l.buffer.ghost_name
+  pub puts : Puts l.buffer.now l.at t m.at m.buffer.now
