@@ -1,4 +1,1 @@
-pub mod Bodies
-pub mod Decoding
-pub mod Places
 pub mod Promises

@@ -1,3 +1,2 @@
-pub mod Bodies
 pub mod Records
 pub mod lines

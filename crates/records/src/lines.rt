@@ -2,8 +2,8 @@
 // decimal numbers and lower hex laid one after the other into a buffer.
 ghost use Rattle.std.specs.Prelude.{◌≡◌, [], ◌∷◌, ◌++◌, ◌+◌, ◌%◌, ◌<◌};
 ghost use Rattle.rules.specs.Trace.{digits, decimal, hex_digit, hex_or_dash, cut_line, full_line, text, signal_word, verdict_word, outcome_word};
-ghost use Rattle.records.specs.lines.Puts.{Puts, Prints};
-ghost use Rattle.records.specs.lines.Lines.{Spells, refusal_word, line_of};
+ghost use Rattle.records.specs.lines.Puts.{Prints};
+ghost use Rattle.records.specs.lines.Lines.{refusal_word, line_of, Lays};
 
 use rules::{Answer, Outcome, Refusal, Signal, Verdict};
 
@@ -16,54 +16,11 @@ const ZERO: u8 = b'0';
 // 10 below the digit `a` of lower hex, which stands for 10
 const BELOW_A: u8 = b'a' - 10;
 
-// Each of these writes a text from place at on, as much of it as the buffer holds, and answers the place after it.
-fn put_byte(line: &mut [u8], at: usize, b: u8) -> usize
-    ensures { Puts line.old at (b ∷ []) result line.new }
-{
-    if at < line.len() {
-        line[at] = b;
-        return at + 1;
-    }
-    at
-}
-
-fn put_word(line: &mut [u8], at: usize, word: &[u8]) -> usize
-    ensures { Puts line.old at word.now result line.new }
-{
-    let mut place = at;
-    let mut k = 0;
-    while k < word.len() {
-        place = put_byte(line, place, word[k]);
-        k += 1;
-    }
-    place
-}
-
 // the last digit of n
 fn digit(n: usize) -> u8
     ensures { result ≡ 48 + n % 10 }
 {
-    let last = n % 10;
-    ZERO + last as u8
-}
-
-fn put_digits(line: &mut [u8], at: usize, most: usize, n: usize) -> usize
-    ensures { Puts line.old at (digits most n) result line.new }
-{
-    if most == 0 {
-        return at;
-    }
-    let mut place = at;
-    if 10 <= n {
-        place = put_digits(line, at, most - 1, n / 10);
-    }
-    put_byte(line, place, digit(n))
-}
-
-fn put_decimal(line: &mut [u8], at: usize, n: usize) -> usize
-    ensures { Puts line.old at (decimal n) result line.new }
-{
-    put_digits(line, at, DIGITS, n)
+    ZERO + (n % 10) as u8
 }
 
 // 'lower hex'
@@ -72,154 +29,161 @@ fn hex_digit(value: u8) -> u8
     ensures { result ≡ hex_digit value }
 {
     if value < 10 {
-        return ZERO + value;
+        ZERO + value
+    } else {
+        BELOW_A + value
     }
-    BELOW_A + value
 }
 
-// 'bytes given in lower hex or `-`'
-fn put_hex(line: &mut [u8], at: usize, bytes: &[u8]) -> usize
-    ensures { Puts line.old at (hex_or_dash bytes.now) result line.new }
-{
-    if bytes.len() == 0 {
-        return put_byte(line, at, b'-');
-    }
-    let mut place = at;
-    let mut k = 0;
-    while k < bytes.len() {
-        let b = bytes[k];
-        place = put_byte(line, place, hex_digit(b / 16));
-        place = put_byte(line, place, hex_digit(b % 16));
-        k += 1;
-    }
-    place
-}
-
-// 'A cut last record prints its index and `cut`.'
-pub fn put_cut(line: &mut [u8], index: usize) -> usize
-    ensures { Prints line.old (cut_line index) result line.new }
-{
-    let at = put_decimal(line, 0, index);
-    put_word(line, at, b" cut\n")
-}
-
-// 'one more, even cut, prints its index and `full` and ends'
-pub fn put_full(line: &mut [u8], index: usize) -> usize
-    ensures { Prints line.old (full_line index) result line.new }
-{
-    let at = put_decimal(line, 0, index);
-    put_word(line, at, b" full\n")
-}
-
-// The letters of a word and how many there are; `allowed` has the most.
-#[derive(Clone, Copy)]
-struct Word([u8; 7], usize);
-
-const INT: Word = Word(*b"int    ", 3);
-
-const QUIT: Word = Word(*b"quit   ", 4);
-
-const TSTP: Word = Word(*b"tstp   ", 4);
-
-const HUP: Word = Word(*b"hup    ", 3);
-
-fn signal_word(signal: Signal) -> Word
-    ensures { Spells result (signal_word signal) }
+fn signal_word(signal: Signal) -> &'static [u8]
+    ensures { result.now ≡ signal_word signal }
 {
     match signal {
-        Signal::Int => INT,
-        Signal::Quit => QUIT,
-        Signal::Tstp => TSTP,
-        Signal::Hup => HUP,
+        Signal::Int => b"int",
+        Signal::Quit => b"quit",
+        Signal::Tstp => b"tstp",
+        Signal::Hup => b"hup",
     }
 }
 
-const ALLOWED: Word = Word(*b"allowed", 7);
-
-const EIO: Word = Word(*b"eio    ", 3);
-
-const TTIN: Word = Word(*b"ttin   ", 4);
-
-const TTOU: Word = Word(*b"ttou   ", 4);
-
-fn verdict_word(verdict: Verdict) -> Word
-    ensures { Spells result (verdict_word verdict) }
+fn verdict_word(verdict: Verdict) -> &'static [u8]
+    ensures { result.now ≡ verdict_word verdict }
 {
     match verdict {
-        Verdict::Allowed => ALLOWED,
-        Verdict::Eio => EIO,
-        Verdict::Ttin => TTIN,
-        Verdict::Ttou => TTOU,
+        Verdict::Allowed => b"allowed",
+        Verdict::Eio => b"eio",
+        Verdict::Ttin => b"ttin",
+        Verdict::Ttou => b"ttou",
     }
 }
-
-const R1: Word = Word(*b"r1     ", 2);
-
-const R2: Word = Word(*b"r2     ", 2);
-
-const R3: Word = Word(*b"r3     ", 2);
-
-const R4: Word = Word(*b"r4     ", 2);
-
-const R5: Word = Word(*b"r5     ", 2);
 
 // `r` and a refusal number
-fn refusal_word(refusal: Refusal) -> Word
-    ensures { Spells result (refusal_word refusal) }
+fn refusal_word(refusal: Refusal) -> &'static [u8]
+    ensures { result.now ≡ refusal_word refusal }
 {
     match refusal {
-        Refusal::BadSettings => R1,
-        Refusal::OutOfRange => R2,
-        Refusal::Nothing => R3,
-        Refusal::ReadWaits => R4,
-        Refusal::HungUp => R5,
+        Refusal::BadSettings => b"r1",
+        Refusal::OutOfRange => b"r2",
+        Refusal::Nothing => b"r3",
+        Refusal::ReadWaits => b"r4",
+        Refusal::HungUp => b"r5",
     }
 }
 
-const OK: Word = Word(*b"ok     ", 2);
-
-const WAIT: Word = Word(*b"wait   ", 4);
-
 // 'outcome (`ok`, `wait`, `int`, `quit`, `tstp`, `hup`, or `r` and a refusal number)'
-fn outcome_word(outcome: Outcome) -> Word
-    ensures { Spells result (outcome_word outcome) }
+fn outcome_word(outcome: Outcome) -> &'static [u8]
+    ensures { result.now ≡ outcome_word outcome }
 {
     match outcome {
-        Outcome::Ok => OK,
-        Outcome::Wait => WAIT,
+        Outcome::Ok => b"ok",
+        Outcome::Wait => b"wait",
         Outcome::Reports(signal) => signal_word(signal),
         Outcome::Judged(verdict) => verdict_word(verdict),
         Outcome::Refused(refusal) => refusal_word(refusal),
     }
 }
 
-// Each of these two writes a space after.
-fn put_number(line: &mut [u8], at: usize, n: usize) -> usize
-    ensures { Puts line.old at (decimal n ++ text " ") result line.new }
-{
-    let place = put_decimal(line, at, n);
-    put_byte(line, place, b' ')
+// A line as it is laid into a buffer, and the place behind it. Each function lays one more text, as much of it as the buffer holds.
+#[derive(Drop)]
+struct Line<'a> {
+    buffer: &'a mut [u8],
+    at: usize,
 }
 
-fn put_outcome(line: &mut [u8], at: usize, outcome: Outcome) -> usize
-    ensures { Puts line.old at (outcome_word outcome ++ text " ") result line.new }
+impl Line<'_> {
+    fn byte(&mut self, b: u8)
+        ensures { Lays self.old (b ∷ []) self.new }
+    {
+        if self.at < self.buffer.len() {
+            self.buffer[self.at] = b;
+            self.at += 1;
+        }
+    }
+
+    fn word(&mut self, word: &[u8])
+        ensures { Lays self.old word.now self.new }
+    {
+        for b in word {
+            self.byte(*b);
+        }
+    }
+
+    fn digits(&mut self, most: usize, n: usize)
+        ensures { Lays self.old (digits most n) self.new }
+    {
+        if most == 0 {
+            return;
+        }
+        if 10 <= n {
+            self.digits(most - 1, n / 10);
+        }
+        self.byte(digit(n));
+    }
+
+    fn decimal(&mut self, n: usize)
+        ensures { Lays self.old (decimal n) self.new }
+    {
+        self.digits(DIGITS, n);
+    }
+
+    // 'bytes given in lower hex or `-`'
+    fn hex(&mut self, bytes: &[u8])
+        ensures { Lays self.old (hex_or_dash bytes.now) self.new }
+    {
+        if bytes.is_empty() {
+            return self.byte(b'-');
+        }
+        for b in bytes {
+            self.byte(hex_digit(*b / 16));
+            self.byte(hex_digit(*b % 16));
+        }
+    }
+}
+
+// an index and the word after it
+fn put_end(line: &mut [u8], index: usize, word: &[u8]) -> usize
+    ensures { Prints line.old (decimal index ++ word.now) result line.new }
 {
-    let word = outcome_word(outcome);
-    let letters = word.0;
-    let length = word.1;
-    let place = put_word(line, at, &letters[..length]);
-    put_byte(line, place, b' ')
+    let mut line = Line {
+        buffer: line,
+        at: 0,
+    };
+    line.decimal(index);
+    line.word(word);
+    line.at
+}
+
+// 'A cut last record prints its index and `cut`.'
+pub fn put_cut(line: &mut [u8], index: usize) -> usize
+    ensures { Prints line.old (cut_line index) result line.new }
+{
+    put_end(line, index, b" cut\n")
+}
+
+// 'one more, even cut, prints its index and `full` and ends'
+pub fn put_full(line: &mut [u8], index: usize) -> usize
+    ensures { Prints line.old (full_line index) result line.new }
+{
+    put_end(line, index, b" full\n")
 }
 
 // 'A line each: index from 0, kind, outcome, count, bytes given.'
 pub fn put_line(line: &mut [u8], index: usize, kind: usize, answer: Answer, given: &[u8]) -> usize
     ensures { Prints line.old (line_of index kind answer given.now) result line.new }
 {
-    let outcome = answer.outcome;
-    let mut at = put_number(line, 0, index);
-    at = put_number(line, at, kind);
-    at = put_outcome(line, at, outcome);
-    at = put_number(line, at, answer.count);
-    at = put_hex(line, at, given);
-    put_byte(line, at, b'\n')
+    let mut line = Line {
+        buffer: line,
+        at: 0,
+    };
+    line.decimal(index);
+    line.byte(b' ');
+    line.decimal(kind);
+    line.byte(b' ');
+    line.word(outcome_word(answer.outcome));
+    line.byte(b' ');
+    line.decimal(answer.count);
+    line.byte(b' ');
+    line.hex(given);
+    line.byte(b'\n');
+    line.at
 }

@@ -1,13 +1,12 @@
 -- One lemma for each way out of the functions of this crate. Assumes nothing.
-use Prim.Native.Nat.{ℕ, ◌+◌, ◌≤◌, ◌<◌, min}
-use native.Mathlib.Nat.{zero-add}
-use native.Mathlib.Numerals.{add-one}
+use Rattle.std.specs.Prelude.{Option, Some, None}
+use Prim.Native.Nat.{ℕ, ◌≤◌, min}
 use native.Mathlib.Omega.{arith}
 use mathlib.Core.Path.{◌≡◌, refl, sym, ap, ap₂, subst, ◌∙◌}
 use mathlib.Core.Bool.{Bool, true, false}
 use mathlib.Core.List.{List, ◌++◌, append_assoc}
-use lib.ListN.{length, take, drop, get_or, set, length-append, replicate}
-use lib.Seq.{paste, paste-zero, paste-suc, length-paste, length-take-le, take_at, take_all}
+use lib.ListN.{length, take, drop, length-append, replicate}
+use lib.Seq.{length-take-le, take_at, take_all}
 use lib.Dec.{eqb}
 use Rattle.rules.specs.declared.Answer.{Answer}
 use Rattle.rules.specs.declared.Call.{Call}
@@ -29,8 +28,7 @@ use Rattle.port.specs.declared.Answered.{Answered}
 use Rattle.records.specs.lines.Lines.{line_of}
 use Rattle.records.specs.lines.Puts.{Prints}
 use Rattle.records.specs.Records.{Decodes, lent_of, meant, told}
-use Rattle.records.specs.declared.Decoded.{Decoded}
-use Rattle.records.specs.declared.Decoded.TheVariants.{WellFormed, Malformed}
+use Rattle.records.specs.declared.Asked as records
 use Rattle.discipline.specs.Contract.{Held, Exact, Stepped, held}
 use Rattle.discipline.proofs.Promises.{one_exact}
 use Rattle.records.proofs.lines.Front.{prints_unique}
@@ -40,39 +38,6 @@ use Rattle.trace.specs.declared.Carried.{Carried}
 use Rattle.rules.specs.Asked.{Asked}
 use Rattle.rules.proofs.Asked.{asked_of}
 use Rattle.trace.specs.Numbers.{most_lent}
-
----- load
-
--- after i bytes of the body
-pub record Loading (l body : List ℕ) (k i : ℕ) (m : List ℕ) : Type 0 where
-  pub upto : i ≤ k
-  pub most : k ≤ min (length body) (length l)
-  pub slice : m ≡ paste l 0 body i
-
-pub loading_begins : {l body : List ℕ} {most k : ℕ} (n : ℕ) → most ≡ min (length body) (length l) → k ≡ min n most → Loading l body k 0 l
-loading_begins {l} {body} n em ek = record { upto = omega arith; most = omega (arith, em, ek); slice = paste-zero l 0 body }
-
-pub loading_next : {l body : List ℕ} {k i : ℕ} {m : List ℕ} → Loading l body k i m → i < k → Loading l body k (i + 1) (set m i (get_or body i 0))
-loading_next {l} {body} {k} {i} a lt =
-    record {
-      upto = omega arith;
-      most = a.most;
-      slice =
-          ap (λ (y : List ℕ). set y i (get_or body i 0)) a.slice
-          ∙ ap (λ (j : ℕ). set (paste l 0 body i) j (get_or body i 0)) (sym (zero-add i))
-          ∙ paste-suc l 0 body i 0 (omega (arith, a.most)) (omega (arith, a.most))
-          ∙ ap (paste l 0 body) (sym (add-one i));
-    }
-
-pub loaded : {l body : List ℕ} {most k i : ℕ} {m : List ℕ} (n : ℕ) → most ≡ min (length body) (length l) → k ≡ min n most → Loading l body k i m → k ≤ i
-    → m ≡ take (min n (min (length body) (length l))) body ++ drop (min n (min (length body) (length l))) l
-loaded {l} {body} {most} {k} {i} n em ek a le =
-    let all : i ≡ min n (min (length body) (length l)) = omega (arith, a.upto, em, ek) in
-    a.slice ∙ ap (λ (j : ℕ). take i body ++ drop j l) (zero-add i) ∙ ap (λ (j : ℕ). take j body ++ drop j l) all
-
-pub loading_size : {l body : List ℕ} {k i : ℕ} {m : List ℕ} → Loading l body k i m → length m ≡ length l
-loading_size {l} {body} {k} {i} a =
-    ap length a.slice ∙ length-paste l 0 body i (omega (arith, a.upto, a.most)) (omega (arith, a.upto, a.most))
 
 ---- What a call hands out, and counts
 
@@ -136,17 +101,17 @@ loaded_step z s (WriteVerdict p) n body l m en le em e = refl
 loaded_step z s (SettingsVerdict p) n body l m en le em e = refl
 
 -- how many bytes an answer of the decoder lends
-abbrev lent_by : Decoded → ℕ
-lent_by (WellFormed c n) = n
-lent_by Malformed = 0
+abbrev lent_by : Option records.Asked → ℕ
+lent_by (Some a) = a.lent
+lent_by None = 0
 
 ---- carry
 
-module _ {kind : ℕ} {body : List ℕ} {d : Decoded} (h : Decodes kind body d) where
-  pub malformed_carried : {p : Port} {bs ms os l : List ℕ} → d ≡ Malformed
+module _ {kind : ℕ} {body : List ℕ} {d : Option records.Asked} (h : Decodes kind body d) where
+  pub malformed_carried : {p : Port} {bs ms os l : List ℕ} → d ≡ None
       → Carries p bs ms os kind body l (record { port = p; answer = record { outcome = Refused OutOfRange; count = 0 }; given = 0 }) bs ms os l
   malformed_carried {p} {bs} {ms} {os} {l} e =
-      let w : malformed ≡ decode kind body = sym (ap (λ (y : Decoded). meant y body) e) ∙ h.means in
+      let w : malformed ≡ decode kind body = sym (ap (λ (y : Option records.Asked). meant y body) e) ∙ h.means in
       let r : answered (sizes p bs ms os) (get p bs ms os) malformed ≡ answered_of p bs ms os kind body =
       ap (answered (sizes p bs ms os) (get p bs ms os)) w in
       record {
@@ -158,9 +123,9 @@ module _ {kind : ℕ} {body : List ℕ} {d : Decoded} (h : Decodes kind body d) 
             subst (λ (y : trace.Decoded). Exactly y p bs ms os l body (answered_of p bs ms os kind body).1.answer p bs ms os) w (refl, refl, refl, refl);
       }
 
-  module _ {call : Call} {n : ℕ} (e : d ≡ WellFormed call n) where
+  module _ {call : Call} {n : ℕ} (e : d ≡ Some (record { call = call; lent = n })) where
     asked : asks call (lent_of call n body) ≡ decode kind body
-    asked = sym (ap (λ (y : Decoded). meant y body) e) ∙ h.means
+    asked = sym (ap (λ (y : Option records.Asked). meant y body) e) ∙ h.means
 
     as_long : n ≡ length (lent_of call n body)
     as_long = ap lent_by (sym e ∙ h.tells ∙ ap told (sym asked))

@@ -9,8 +9,8 @@ ghost use Rattle.std.specs.Prelude.{◌≡◌, ◌≤◌, length};
 ghost use Rattle.trace.specs.Contract.{given_of, Carries, Records, loaded};
 ghost use Rattle.trace.specs.Numbers.{most_lent};
 
-use port::Port;
-use records::{Decoded, lines};
+use port::{Answered, Port};
+use records::lines;
 use rules::{Answer, Call, Outcome, Refusal};
 
 // No call is lent more bytes than a transmit.
@@ -35,13 +35,8 @@ pub struct Recorded {
 fn load(lent: &mut [u8], body: &[u8], n: usize)
     ensures { lent.new ≡ loaded lent.old n body.now }
 {
-    let most = queue::least(body.len(), lent.len());
-    let k = queue::least(n, most);
-    let mut at = 0;
-    while at < k {
-        lent[at] = body[at];
-        at += 1;
-    }
+    let k = n.min(body.len()).min(lent.len());
+    lent[..k].copy_from_slice(&body[..k]);
 }
 
 // the bytes that a call hands out, of this count
@@ -49,17 +44,8 @@ fn given_of(call: Call, count: usize) -> usize
     ensures { result ≡ given_of call count }
 {
     match call {
-        Call::Set(_) => 0,
-        Call::Receive(_) => 0,
-        Call::Read { .. } => count,
-        Call::Write => 0,
-        Call::Transmit => count,
-        Call::Flush(_) => 0,
-        Call::Cancel => 0,
-        Call::Foreground { .. } => 0,
-        Call::ReadVerdict(_) => 0,
-        Call::WriteVerdict(_) => 0,
-        Call::SettingsVerdict(_) => 0,
+        Call::Read { .. } | Call::Transmit => count,
+        _ => 0,
     }
 }
 
@@ -76,8 +62,7 @@ fn carry(
     requires { most_lent ≤ length lent.old }
     ensures { Carries p bytes.old marks.old out.old kind body.now lent.old result bytes.new marks.new out.new lent.new }
 {
-    let decoded = records::decode(kind, body);
-    let Decoded::WellFormed { call, lent: n } = decoded else {
+    let Some(asked) = records::decode(kind, body) else {
         return Carried {
             port: p,
             answer: Answer {
@@ -87,15 +72,20 @@ fn carry(
             given: 0,
         };
     };
-    load(lent, body, n);
-    let answered = discipline::step(p, bytes, marks, out, call, &mut lent[..n]);
-    let port = answered.port;
-    let answer = answered.answer;
-    let given = given_of(call, answer.count);
+    load(lent, body, asked.lent);
+    let Answered { port, answer } = discipline::step(
+        p,
+        bytes,
+        marks,
+        out,
+        asked.call,
+        &mut lent[..asked.lent],
+    );
+    let given = given_of(asked.call, answer.count);
     Carried {
-        port: port,
-        answer: answer,
-        given: given,
+        port,
+        answer,
+        given,
     }
 }
 
@@ -113,13 +103,11 @@ pub fn record(
     ensures { Records p bytes.old marks.old out.old index kind body.now line.old result bytes.new marks.new out.new line.new }
 {
     let mut lent = [0u8; LENT];
-    let carried = carry(p, bytes, marks, out, kind, body, &mut lent);
-    let port = carried.port;
-    let answer = carried.answer;
-    let given = carried.given;
+    let Carried {
+        port,
+        answer,
+        given,
+    } = carry(p, bytes, marks, out, kind, body, &mut lent);
     let length = lines::put_line(line, index, kind, answer, &lent[..given]);
-    Recorded {
-        port: port,
-        length: length,
-    }
+    Recorded { port, length }
 }

@@ -5,7 +5,10 @@ use mathlib.Core.List.{List, [], ◌∷◌, ◌++◌}
 use native.Mathlib.Omega.{arith}
 use lib.ListN.{length, set, take, drop}
 use lib.Seq.{sets, drop-nil}
-use Rattle.records.specs.lines.Puts.{Puts, Prints}
+use Rattle.std.specs.Borrow.{MutBor}
+use Rattle.records.specs.declared.lines.Line.{Line}
+use Rattle.records.specs.lines.Lines.{Lays}
+use Rattle.records.specs.lines.Puts.{Prints}
 use Rattle.records.proofs.lines.Texts.{sets_out}
 
 -- the same place and buffer, otherwise written
@@ -18,10 +21,11 @@ sets_front [] t = sets_out [] 0 t (omega arith) ∙ sym (drop-nil (length t))
 sets_front (y ∷ l) [] = refl
 sets_front (y ∷ l) (x ∷ t) = sets_cons x l 0 t ∙ ap (λ (m : List ℕ). x ∷ m) (sets_front l t)
 
-pub prints : {l m t : List ℕ} {r : ℕ} → Puts l 0 t r m → Prints l t r m
-prints {l} {m} {t} {r} x =
-    let x_place = x.place in
-    record { count = omega arith; buffer = x.buffer ∙ sets_front l t }
+-- a text laid into a line that begins in the buffer b, which then holds o
+pub printed : {b : MutBor (List ℕ)} {m : Line} {t o : List ℕ} → Lays (record { buffer = b; at = 0 }) t m → o ≡ m.buffer.now → Prints b.now t m.at o
+printed {b} {m} {t} x e =
+    let x_place = x.puts.place in
+    record { count = omega arith; buffer = e ∙ x.puts.buffer ∙ sets_front b.now t }
 
 -- no second answer, no second buffer: of whoever prints the text t
 pub prints_unique : {l t : List ℕ} (r q : ℕ) (m k : List ℕ) → Prints l t r m → Prints l t q k → (r ≡ q) × (m ≡ k)

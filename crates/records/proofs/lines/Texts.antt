@@ -35,7 +35,7 @@ after_on l i r a b e false h =
     let n : length (sets l i a) ≡ length l = length-sets l i a in
     sets_out (sets l i a) r b (omega arith) ∙ sym (sets_out (sets l i a) (i + length a) b (omega arith))
 
-pub kept : {l m t : List ℕ} {i r : ℕ} → Puts l i t r m → length m ≡ length l
+kept : {l m t : List ℕ} {i r : ℕ} → Puts l i t r m → length m ≡ length l
 kept {l} {m} {t} {i} {r} x = ap length x.buffer ∙ length-sets l i t
 
 -- a text, then a text
@@ -52,29 +52,15 @@ then {l} {m} {k} {a} {b} {i} {r} {q} x y =
           ∙ sym (sets_append l i a b);
     }
 
-pub nothing : (l : List ℕ) (i : ℕ) → Puts l i [] i l
-nothing l i = record { place = omega arith; buffer = refl }
-
-pub no_room : (l : List ℕ) (i b : ℕ) → length l ≤ i → Puts l i (b ∷ []) i l
-no_room l i b h = record { place = omega arith; buffer = sym (set_out l i b h) }
-
 -- the same text, otherwise written
 pub same_text : {l m a b : List ℕ} {i r : ℕ} → a ≡ b → Puts l i a r m → Puts l i b r m
 same_text {l} {m} {a} {b} {i} {r} e x = rw e at x
 
--- a text, then a text and a space
-pub same_end : {l m k t : List ℕ} {i r q : ℕ} → q ≡ r → k ≡ m → Puts l i t r m → Puts l i t q k
-same_end e f x = record { place = e ∙ x.place; buffer = f ∙ x.buffer }
-
 -- words
-pub word_next : {l m k : List ℕ} {i p q : ℕ} (w : List ℕ) (j : ℕ) → j < length w → Puts l i (take j w) p m → Puts m p (get_or w j 0 ∷ []) q k
-    → Puts l i (take (j + 1) w) q k
-word_next w j lt x y = rw (add-one, take-suc w j 0) (then x y)
+pub one_more : (w : List ℕ) (j : ℕ) → j < length w → take j w ++ (get_or w j 0 ∷ []) ≡ take (j + 1) w
+one_more w j lt = sym (rw (add-one, take-suc w j 0) refl)
 
 -- numbers
-pub digits_none : (most n : ℕ) → most ≡ 0 → digits most n ≡ []
-digits_none most n e = rw e
-
 pub digits_one : (most n : ℕ) → (most ≡ 0 → ⊥) → n < 10 → digits most n ≡ (48 + n % 10) ∷ []
 digits_one zero n h lt = absurd (h refl)
 digits_one (suc k) n h lt = rw (lt-ltb n 10 lt, mod-eq_of_lt lt)
@@ -84,5 +70,3 @@ digits_more zero n h le = absurd (h refl)
 digits_more (suc k) n h le =
     let e : suc k - 1 ≡ k = omega arith in
     rw (le-ltb n 10 le, e)
-
--- a whole buffer

@@ -1,8 +1,9 @@
 -- What the writers of lines promise.
-use Rattle.std.specs.Prelude.{ℕ, ◌≤◌, ◌≡◌, List, [], ◌++◌, length, take}
+use Rattle.std.specs.Prelude.{ℕ, ◌≡◌, List, [], ◌++◌}
+use Rattle.records.specs.lines.Puts.{Puts}
+use Rattle.records.specs.declared.lines.Line.{Line}
 use Rattle.rules.specs.declared.Answer.{Answer}
 use Rattle.rules.specs.declared.Refusal.{Refusal}
-use Rattle.records.specs.declared.lines.Word.{Word}
 use Rattle.rules.specs.Refusals.{Reply, number_of}
 use Rattle.rules.specs.Trace.{text, decimal, line}
 
@@ -18,7 +19,7 @@ line_of index kind a given = line index kind (reply_of a given)
 abbrev pub refusal_word : Refusal → List ℕ
 refusal_word r = text "r" ++ decimal (number_of r)
 
--- the word w is the text t
-pub record Spells (w : Word) (t : List ℕ) : Type 0 where
-  pub inside : w.1 ≤ length w.0
-  pub word : take w.1 w.0 ≡ t
+-- the text t laid behind what the line l has
+pub record Lays (l : Line) (t : List ℕ) (m : Line) : Type 0 where
+  pub same : m.buffer.ghost_name ≡ l.buffer.ghost_name
+  pub puts : Puts l.buffer.now l.at t m.at m.buffer.now

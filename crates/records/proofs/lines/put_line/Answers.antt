@@ -1,20 +1,13 @@
 -- `records::lines::put_line` meets its contract: its texts are laid one after the other. Assumes nothing.
-use Rattle.rules.specs.Trace.{decimal, outcome_word}
-use Rattle.records.proofs.lines.Texts.{then}
-use Rattle.records.proofs.lines.Front.{prints}
-use Rattle.records.proofs.lines.Lines.{then_spaced}
+use borrow.Author.Rules.{rules}
+use Rattle.records.proofs.lines.Lines.{laid, laid_as}
+use Rattle.records.proofs.lines.Front.{printed}
 use Rattle.records.proofs.lines.put_line.Goals as goal
 
 pub returns : goal.returns
 returns c =
-    let a = c.args in
-    prints
-    (then
-    (then
-    (then_spaced (decimal a.answer.count)
-    (then_spaced (outcome_word a.answer.outcome)
-    (then_spaced (decimal a.kind) c.put_number-at.ensures c.put_number-at-2.ensures)
-    c.put_outcome-at.ensures)
-    c.put_number-at-3.ensures)
-    c.put_hex-at.ensures)
-    c.put_byte.ensures)
+    let index = laid c.decimal.ensures c.byte.ensures in
+    let kind = laid (laid index c.decimal-2.ensures) c.byte-2.ensures in
+    let outcome = laid (laid kind (laid_as c.outcome_word.ensures c.word.ensures)) c.byte-3.ensures in
+    let count = laid (laid outcome c.decimal-3.ensures) c.byte-4.ensures in
+    printed (laid (laid count c.hex.ensures) c.byte-5.ensures) (search rules)
