@@ -1,15 +1,17 @@
 // Document 01, 'Editing', on a port: ERASE, WERASE, KILL, REPRINT, each by what it removes or shows again.
+ghost use Rattle.std.specs.Fn.{FnOnceReturnsAtMut};
 ghost use Rattle.std.specs.Prelude.{◌≡◌, length, leb};
 ghost use Rattle.rules.specs.Editing.{erase, word_erase, kill, reprint};
 ghost use Rattle.input.specs.Contract.{Within};
 ghost use Rattle.port.specs.Layers.{Ranged, Ready};
 ghost use Rattle.received.specs.Contract.{Does};
-ghost use Rattle.received.specs.edits.Contract.{without, edits, Edited};
+ghost use Rattle.received.specs.edits.Contract.{without, Removed, edits, Edited};
 ghost use Rattle.received.specs.meaning.Meaning.{edit_of};
 
 use super::meaning::Edit;
 use editing::{Run, reprinting, words};
 use input::Input;
+use output::Output;
 use port::Port;
 
 // the current line has no unit
@@ -30,28 +32,43 @@ fn without(p: Port, n: usize, run: Run) -> Port
     }
 }
 
-// ERASE and WERASE by the character b: the units of the run are gone, and what that shows is shown; on an empty line nothing
+// the units of the run are gone, and what that shows is shown; on an empty line nothing
+fn removes<F: FnOnce(&mut [u8]) -> Output>(
+    p: Port,
+    n: usize,
+    out: &mut [u8],
+    run: Run,
+    shows: F,
+) -> Port
+    requires within { Within p.input n }
+    requires callable { F.IsAlwaysCallable shows }
+    ensures { Removed (leb p.input.queue.len p.input.ready) (FnOnceReturnsAtMut F.FnOnce shows) p run out.old result out.new }
+{
+    if line_empty(p.input) {
+        p
+    } else {
+        without(p, n, run).with_output(shows(out))
+    }
+}
+
+// ERASE and WERASE by the character b
 fn erases(p: Port, n: usize, out: &mut [u8], b: u8, run: Run) -> Port
     requires { Ranged p n (length out.old) }
     ensures { Edited p n out.old run b result out.new erase × Edited p n out.old run b result out.new word_erase }
 {
-    if line_empty(p.input) {
-        return p;
-    }
-    let shorter = without(p, n, run);
-    shorter.with_output(echo::of_erased(shorter.output, p.settings, out, b, run.units))
+    removes(p, n, out, run, |out| {
+        echo::of_erased(p.output, p.settings, out, b, run.units)
+    })
 }
 
-// KILL likewise
+// KILL by the character b
 fn kills(p: Port, n: usize, out: &mut [u8], b: u8, run: Run) -> Port
     requires { Ranged p n (length out.old) }
     ensures { Edited p n out.old run b result out.new kill }
 {
-    if line_empty(p.input) {
-        return p;
-    }
-    let shorter = without(p, n, run);
-    shorter.with_output(echo::of_killed(shorter.output, p.settings, out, b, run.units))
+    removes(p, n, out, run, |out| {
+        echo::of_killed(p.output, p.settings, out, b, run.units)
+    })
 }
 
 // REPRINT: the line stays, and is shown again
