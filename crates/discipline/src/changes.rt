@@ -15,29 +15,18 @@ fn change_input(i: Input, bytes: &mut [u8], marks: &mut [u8], was: bool, is: boo
     requires { Sound i bytes.old marks.old }
     ensures { Changes was is i bytes.old marks.old result bytes.new marks.new }
 {
-    if was {
-        if is {
-            return i;
-        }
-        return canonical::without_marks(i, bytes, marks);
+    match (was, is) {
+        (true, false) => canonical::without_marks(i, bytes, marks),
+        (false, true) => canonical::one_line(i, marks),
+        _ => i,
     }
-    if is {
-        return canonical::one_line(i, marks);
-    }
-    i
 }
 
 // 'If IXON goes off, output resumes.'
 fn change_output(o: Output, was: bool, is: bool) -> Output
     ensures { result ≡ resumed was is o }
 {
-    if was {
-        if is {
-            return o;
-        }
-        return o.stop(false);
-    }
-    o
+    if was && !is { o.stop(false) } else { o }
 }
 
 fn with_settings(p: Port, x: Settings, input: Input, output: Output) -> Port
@@ -45,8 +34,8 @@ fn with_settings(p: Port, x: Settings, input: Input, output: Output) -> Port
 {
     Port {
         settings: x,
-        input: input,
-        output: output,
+        input,
+        output,
         ..p
     }
 }
@@ -55,25 +44,21 @@ fn with_settings(p: Port, x: Settings, input: Input, output: Output) -> Port
 pub fn set(p: Port, bytes: &mut [u8], marks: &mut [u8], x: Settings) -> Answered
     ensures { Sets p bytes.old marks.old x (step_of p bytes.old marks.old [] (Call.Set x) []) result bytes.new marks.new }
 {
-    let w = p.waiting;
-    if waiting::a_read_waits(w) {
-        return port::says(p, Outcome::Refused(Refusal::ReadWaits), 0);
+    if waiting::a_read_waits(p.waiting) {
+        return port::refuses(p, Refusal::ReadWaits);
     }
-    if settings::acceptable(x) {
-        let n = queue::least(bytes.len(), marks.len());
-        let old = p.settings;
-        let i = p.input;
-        let o = p.output;
-        let fitted = i.fit(n);
-        let input = change_input(
-            fitted,
-            &mut bytes[..n],
-            &mut marks[..n],
-            old.icanon,
-            x.icanon,
-        );
-        let output = change_output(o, old.ixon, x.ixon);
-        return port::says(with_settings(p, x, input, output), Outcome::Ok, 0);
+    if !settings::acceptable(x) {
+        return port::refuses(p, Refusal::BadSettings);
     }
-    port::says(p, Outcome::Refused(Refusal::BadSettings), 0)
+    let n = bytes.len().min(marks.len());
+    let old = p.settings;
+    let input = change_input(
+        p.input.fit(n),
+        &mut bytes[..n],
+        &mut marks[..n],
+        old.icanon,
+        x.icanon,
+    );
+    let output = change_output(p.output, old.ixon, x.ixon);
+    port::says(with_settings(p, x, input, output), Outcome::Ok, 0)
 }

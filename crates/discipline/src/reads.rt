@@ -15,8 +15,7 @@ use rules::{Call, Outcome, Refusal, Settings, Waiting};
 fn with_read(p: Port, input: Input, waiting: Waiting) -> Port
     ensures { result ≡ assembled p input p.output waiting }
 {
-    let output = p.output;
-    port::assemble(p, input, output, waiting)
+    port::assemble(p, input, p.output, waiting)
 }
 
 // The read is done: no read waits any more.
@@ -24,8 +23,7 @@ fn finish(p: Port, i: Input, bytes: &[u8], marks: &[u8], dst: &mut [u8]) -> Answ
     requires { Sound i bytes.now marks.now }
     ensures { ReadsBy done p i bytes.now marks.now dst.old result dst.new }
 {
-    let x = p.settings;
-    if x.icanon {
+    if p.settings.icanon {
         let taken = reading::read_line(i, bytes, marks, dst);
         let left = taken.rest;
         return port::says(with_read(p, left, Waiting::Idle), Outcome::Ok, taken.count);
@@ -40,12 +38,10 @@ fn finds(x: Settings, finished: usize, w: Waiting, n: usize) -> bool
     ensures { result ≡ «finds» x finished w n }
 {
     if x.icanon {
-        return finished > 0;
+        finished > 0
+    } else {
+        waiting::enough(x, n, finished) || waiting::expired(w)
     }
-    if waiting::enough(x, n, finished) {
-        return true;
-    }
-    waiting::expired(w)
 }
 
 // 'Non-blocking takes that at once .. or gives refusal 3 if no byte is stored; canonical, if no line is finished. Otherwise the
@@ -61,20 +57,18 @@ fn ruled(
     requires { Sound i bytes.now marks.now }
     ensures { ReadsBy (λ s n. rule.ruled s nonblocking n) p i bytes.now marks.now dst.old result dst.new }
 {
-    let x = p.settings;
-    let w = p.waiting;
     let n = dst.len();
     if nonblocking {
         if i.ready == 0 {
-            return port::says(p, Outcome::Refused(Refusal::Nothing), 0);
+            return port::refuses(p, Refusal::Nothing);
         }
         return finish(p, i, bytes, marks, dst);
     }
-    if finds(x, i.ready, w, n) {
+    if finds(p.settings, i.ready, p.waiting, n) {
         return finish(p, i, bytes, marks, dst);
     }
-    let begun = waiting::begins(x, i.ready, n);
-    let waits = waiting::waits(begun, w);
+    let begun = waiting::begins(p.settings, i.ready, n);
+    let waits = waiting::waits(begun, p.waiting);
     port::says(with_read(p, i, waits), Outcome::Wait, 0)
 }
 
@@ -91,16 +85,15 @@ fn ordered(
     requires { Sound i bytes.now marks.now }
     ensures { ReadsBy (λ s n. rule.read s nonblocking n) p i bytes.now marks.now dst.old result dst.new }
 {
-    let w = p.waiting;
     let n = dst.len();
     if p.hung {
         return port::says(with_read(p, i, Waiting::Idle), Outcome::Ok, 0);
     }
-    if waiting::clashes(w, nonblocking, n) {
-        return port::says(p, Outcome::Refused(Refusal::ReadWaits), 0);
+    if waiting::clashes(p.waiting, nonblocking, n) {
+        return port::refuses(p, Refusal::ReadWaits);
     }
     if n == 0 {
-        return port::says(with_read(p, i, w), Outcome::Ok, 0);
+        return port::says(with_read(p, i, p.waiting), Outcome::Ok, 0);
     }
     ruled(p, i, bytes, marks, dst, nonblocking)
 }
@@ -109,9 +102,8 @@ fn ordered(
 pub fn read(p: Port, bytes: &[u8], marks: &[u8], dst: &mut [u8], nonblocking: bool) -> Answered
     ensures { Reads p bytes.now marks.now dst.old nonblocking result dst.new }
 {
-    let n = queue::least(bytes.len(), marks.len());
-    let i = p.input;
-    let fitted = i.fit(n);
+    let n = bytes.len().min(marks.len());
+    let fitted = p.input.fit(n);
     ordered(p, fitted, &bytes[..n], &marks[..n], dst, nonblocking)
 }
 
@@ -119,8 +111,5 @@ pub fn read(p: Port, bytes: &[u8], marks: &[u8], dst: &mut [u8], nonblocking: bo
 pub fn cancel(p: Port) -> Answered
     ensures { result ≡ cancelled p (step_of p [] [] [] Call.Cancel []) }
 {
-    let input = p.input;
-    let output = p.output;
-    let cancelled = port::assemble(p, input, output, Waiting::Idle);
-    port::says(cancelled, Outcome::Ok, 0)
+    port::says(with_read(p, p.input, Waiting::Idle), Outcome::Ok, 0)
 }

@@ -10,10 +10,7 @@ use rules::{Outcome, Refusal};
 fn nothing_taken(len: usize, count: usize) -> bool
     ensures { result ≡ (ltb 0 len && eqb count 0) }
 {
-    if len > 0 {
-        return count == 0;
-    }
-    false
+    len > 0 && count == 0
 }
 
 // 'A write takes bytes until one's whole expansion does not fit, then stops there; its count is the bytes taken.'
@@ -21,14 +18,12 @@ pub fn write(p: Port, out: &mut [u8], src: &[u8]) -> Answered
     ensures { promise.result result out.new src.now ≡ promise.after_write p out.old src.now }
 {
     if p.hung {
-        return port::says(p, Outcome::Refused(Refusal::HungUp), 0);
+        return port::refuses(p, Refusal::HungUp);
     }
-    let x = p.settings;
-    let o = p.output;
-    let wrote = output::write(o, x, out, src);
+    let wrote = output::write(p.output, p.settings, out, src);
     let count = wrote.count;
     if nothing_taken(src.len(), count) {
-        return port::says(p, Outcome::Refused(Refusal::Nothing), 0);
+        return port::refuses(p, Refusal::Nothing);
     }
     let output = wrote.output;
     let after = p.with_output(output);
@@ -39,8 +34,7 @@ pub fn write(p: Port, out: &mut [u8], src: &[u8]) -> Answered
 pub fn transmit(p: Port, out: &[u8], dst: &mut [u8]) -> Answered
     ensures { promise.result result out.now dst.new ≡ promise.after_transmit p out.now dst.old }
 {
-    let o = p.output;
-    let sent = o.transmit(out, dst);
+    let sent = p.output.transmit(out, dst);
     let output = sent.output;
     let after = p.with_output(output);
     port::says(after, Outcome::Ok, sent.count)
@@ -57,8 +51,7 @@ pub struct Moved {
 fn taken(answered: Answered) -> usize
     ensures { result ≡ answered.answer.count }
 {
-    let answer = answered.answer;
-    answer.count
+    answered.answer.count
 }
 
 // 'Later writes go on from the rest': as much of src as the port takes, then what transmit gives into dst, then the rest.
@@ -66,17 +59,12 @@ pub fn write_through(p: Port, out: &mut [u8], src: &[u8], dst: &mut [u8]) -> Mov
     ensures { MovesThrough p out.old src.now dst.old result out.new dst.new }
 {
     let first = write(p, out, src);
-    let filled = first.port;
     let n = taken(first);
-    let sent = transmit(filled, out, dst);
-    let emptied = sent.port;
-    let given = taken(sent);
-    let rest = write(emptied, out, &src[n..]);
-    let port = rest.port;
-    let more = taken(rest);
+    let sent = transmit(first.port, out, dst);
+    let rest = write(sent.port, out, &src[n..]);
     Moved {
-        port: port,
-        written: n + more,
-        given: given,
+        port: rest.port,
+        written: n + taken(rest),
+        given: taken(sent),
     }
 }

@@ -10,10 +10,7 @@ use rules::{Call, Group, Outcome, Process, Refusal, Verdict};
 fn with_group(p: Port, foreground: Option<Group>) -> Port
     ensures { result ≡ with_group p foreground }
 {
-    Port {
-        foreground: foreground,
-        ..p
-    }
+    Port { foreground, ..p }
 }
 
 // 'a foreground group: none, or a number 1..2,147,483,647 with an orphaned mark'
@@ -21,7 +18,7 @@ pub fn foreground(p: Port, group: u32, orphaned: bool) -> Answered
     ensures { result ≡ grouped p (step_of p [] [] [] (Call.Foreground group orphaned) []) }
 {
     if jobs::too_large(group) {
-        return port::says(p, Outcome::Refused(Refusal::OutOfRange), 0); // 'a group above 2,147,483,647'
+        return port::refuses(p, Refusal::OutOfRange); // 'a group above 2,147,483,647'
     }
     let foreground = jobs::group_of(group, orphaned);
     port::says(with_group(p, foreground), Outcome::Ok, 0)
@@ -31,32 +28,25 @@ pub fn foreground(p: Port, group: u32, orphaned: bool) -> Answered
 fn judged(p: Port, who: Process, verdict: Verdict) -> Answered
     ensures { result ≡ unchanged p (rule.judged (get p [] [] []) who verdict) }
 {
-    let group = who.group;
-    if jobs::too_large(group) {
-        return port::says(p, Outcome::Refused(Refusal::OutOfRange), 0);
+    if jobs::too_large(who.group) || who.group == 0 {
+        port::refuses(p, Refusal::OutOfRange)
+    } else {
+        port::says(p, Outcome::Judged(verdict), 0)
     }
-    if group == 0 {
-        return port::says(p, Outcome::Refused(Refusal::OutOfRange), 0);
-    }
-    port::says(p, Outcome::Judged(verdict), 0)
 }
 
 // 'Job control verdicts': a background read
 pub fn read_verdict(p: Port, who: Process) -> Answered
     ensures { result ≡ unchanged p (step_of p [] [] [] (Call.ReadVerdict who) []) }
 {
-    let foreground = p.foreground;
-    let verdict = jobs::read_verdict(foreground, who);
-    judged(p, who, verdict)
+    judged(p, who, jobs::read_verdict(p.foreground, who))
 }
 
 // a background write
 pub fn write_verdict(p: Port, who: Process) -> Answered
     ensures { result ≡ unchanged p (step_of p [] [] [] (Call.WriteVerdict who) []) }
 {
-    let x = p.settings;
-    let foreground = p.foreground;
-    let verdict = jobs::write_verdict(x.tostop, foreground, who);
+    let verdict = jobs::write_verdict(p.settings.tostop, p.foreground, who);
     judged(p, who, verdict)
 }
 
@@ -64,7 +54,5 @@ pub fn write_verdict(p: Port, who: Process) -> Answered
 pub fn settings_verdict(p: Port, who: Process) -> Answered
     ensures { result ≡ unchanged p (step_of p [] [] [] (Call.SettingsVerdict who) []) }
 {
-    let foreground = p.foreground;
-    let verdict = jobs::settings_verdict(foreground, who);
-    judged(p, who, verdict)
+    judged(p, who, jobs::settings_verdict(p.foreground, who))
 }

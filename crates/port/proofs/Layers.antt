@@ -94,7 +94,3 @@ stays p bs ms os g =
       hung = refl;
       waiting = refl;
     }
-
--- the numbers are in range of the marks' slice too
-pub within_marks : (p : Port) (bs ms os : List ℕ) → Ready p bs ms os → input.Within p.input (length ms)
-within_marks p bs ms os g = subst (input.Within p.input) g.same g.ranged.input

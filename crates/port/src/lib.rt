@@ -11,7 +11,7 @@ ghost use Rattle.port.specs.Sending as promise;
 
 use input::Input;
 use output::Output;
-use rules::{Answer, Group, Outcome, Settings, Waiting};
+use rules::{Answer, Group, Outcome, Refusal, Settings, Waiting};
 
 #[derive(Clone, Copy)]
 pub struct Port {
@@ -42,14 +42,11 @@ impl Port {
     pub fn fresh() -> Port
         ensures { result ≡ promise.fresh }
     {
-        let settings = settings::defaults();
-        let input = Input::fresh();
-        let output = Output::fresh();
         Port {
-            settings: settings,
+            settings: settings::defaults(),
             line: Port::LINE,
-            input: input,
-            output: output,
+            input: Input::fresh(),
+            output: Output::fresh(),
             foreground: None,
             hung: false,
             waiting: Waiting::Idle,
@@ -59,19 +56,14 @@ impl Port {
     pub fn with_output(self, output: Output) -> Port
         ensures { result ≡ with_output self output }
     {
-        Port {
-            output: output,
-            ..self
-        }
+        Port { output, ..self }
     }
 
     // 'Flushing output empties its queue; column and "stopped" stay.' The slice of the output has n bytes.
     pub fn flush_output(self, n: usize) -> Port
         ensures { result ≡ promise.flushed self n }
     {
-        let o = self.output;
-        let output = o.flush(n);
-        self.with_output(output)
+        self.with_output(self.output.flush(n))
     }
 
     // What every call on a port and its slices begins with: the same port, its numbers in range of n places of input and of
@@ -79,13 +71,9 @@ impl Port {
     pub fn in_range(self, n: usize, room: usize) -> Port
         ensures { result ≡ ranged self n room }
     {
-        let i = self.input;
-        let o = self.output;
-        let input = i.fit(n);
-        let output = o.fit(room);
         Port {
-            input: input,
-            output: output,
+            input: self.input.fit(n),
+            output: self.output.fit(room),
             ..self
         }
     }
@@ -97,11 +85,15 @@ pub fn says(p: Port, outcome: Outcome, count: usize) -> Answered
 {
     Answered {
         port: p,
-        answer: Answer {
-            outcome: outcome,
-            count: count,
-        },
+        answer: Answer { outcome, count },
     }
+}
+
+// 'A refusal returns its number and count 0; port and buffers keep every byte.'
+pub fn refuses(p: Port, refusal: Refusal) -> Answered
+    ensures { result ≡ record { port = p; answer = record { outcome = Outcome.Refused refusal; count = 0 } } }
+{
+    says(p, Outcome::Refused(refusal), 0)
 }
 
 // the port with other queues and another waiting read
@@ -109,9 +101,9 @@ pub fn assemble(p: Port, input: Input, output: Output, waiting: Waiting) -> Port
     ensures { result ≡ assembled p input output waiting }
 {
     Port {
-        input: input,
-        output: output,
-        waiting: waiting,
+        input,
+        output,
+        waiting,
         ..p
     }
 }

@@ -1,8 +1,8 @@
 -- A good byte: step 2, and what it means carried out from step 3 on. Assumes nothing.
-use mathlib.Core.Path.{◌≡◌, sym, ap, ◌∙◌, subst, refl}
-use mathlib.Core.Bool.{Bool, true, false, not, ◌&&◌, and-false, and-true}
+use mathlib.Core.Path.{◌≡◌, ap, ◌∙◌, subst, refl}
+use mathlib.Core.Bool.{false}
 use Rattle.rules.specs.declared.Settings.{Settings}
-use Rattle.received.specs.Contract.{stopped_then, Answers, Tells, begun}
+use Rattle.received.specs.Contract.{Answers, Tells, begun}
 use mathlib.Core.List.{List}
 use Prim.Native.Nat.{ℕ}
 use Rattle.rules.specs.Sizes.{Sizes, State, with_input, with_literal_next}
@@ -10,38 +10,16 @@ use Rattle.rules.specs.Received as steps
 use Rattle.received.specs.meaning.Meaning.{meaning_of}
 use Rattle.received.specs.declared.meaning.Meaning.{Meaning}
 use Rattle.port.specs.declared.Port.{Port}
-use Rattle.port.specs.Layers.{state, Becomes, sizes_of, Ready}
+use Rattle.port.specs.Layers.{state, Becomes, sizes_of}
 use lib.ListN.{length}
 use Rattle.rules.specs.declared.Outcome.{Outcome}
 use Rattle.input.specs.Contract as input
 use Rattle.output.specs.Contract as output
 use Rattle.port.proofs.Layers.{as_state}
-use Rattle.received.specs.flushing.Contract.{stop_to}
-
----- 'IXON and IXANY: output resumes.'
-
-pub resumes_both : (x : Settings) (t : Bool) → x.ixon ≡ true → x.ixany ≡ true → false ≡ stopped_then x t
-resumes_both x t a b = sym (ap (λ (y : Bool). t && not (y && x.ixany)) a ∙ ap (λ (y : Bool). t && not y) b ∙ and-false t)
-
-pub resumes_not : (x : Settings) (t : Bool) → (x.ixon && x.ixany) ≡ false → t ≡ stopped_then x t
-resumes_not x t a = sym (ap (λ (y : Bool). t && not y) a ∙ and-true t)
 
 ---- The port at step 3
 
-module _ (p : Port) (bs ms os : List ℕ) (g : Ready p bs ms os) where
-  -- the port at step 3 is as ready
-  pub begun_ready : Ready (begun p) bs ms os
-  begun_ready =
-      let w = g.ranged.input in
-      record {
-        same = g.same;
-        ranged =
-            record {
-              input = record { head = w.head; len = w.len; ready = w.ready };
-              output = ap (stop_to (stopped_then p.settings p.output.stopped)) g.ranged.output;
-            };
-      }
-
+module _ (p : Port) (bs ms os : List ℕ) where
   -- what it becomes, the port becomes
   begun_becomes : (w : State) (r : Port) (bs' ms' os' : List ℕ) → Becomes (begun p) bs ms os w r bs' ms' os' → Becomes p bs ms os w r bs' ms' os'
   unfolding input.get input.all
@@ -62,7 +40,7 @@ module _ (p : Port) (bs ms os : List ℕ) (g : Ready p bs ms os) where
 
   -- a good byte: what it means is carried out from step 3 on
   pub good_of : (b c : ℕ) (m : Meaning) (q t : Port) (o : Outcome) (bs' ms' os' : List ℕ) → c ≡ steps.step1 p.settings b
-      → meaning_of p.settings m ≡ steps.step3 p.settings p.input.literal c → q ≡ begun p → Tells m q.foreground o
+      → meaning_of p.settings m ≡ steps.step3 p.settings p.input.literal c → q ≡ begun p → Tells m p.foreground o
       → Becomes q bs ms os (steps.carry (sizes_of q (length bs) (length os)) (state q bs ms os) (meaning_of q.settings m)).0 t bs' ms' os'
       → Answers p bs ms os (steps.good (sizes_of p (length bs) (length os)) (state p bs ms os) b) (record { port = t; outcome = o }) bs' ms' os'
   unfolding input.get
@@ -84,5 +62,5 @@ module _ (p : Port) (bs ms os : List ℕ) (g : Ready p bs ms os) where
             (ap (λ (y : State × Outcome). y.0) there)
             (begun_becomes (steps.carry z (state (begun p) bs ms os) (meaning_of x m)).0 t bs' ms' os' from);
         outcome =
-            tells z (state (begun p) bs ms os) x (sym (ap (λ (y : Port). y.foreground) eq)) ∙ ap (λ (y : State × Outcome). y.1) there;
+            tells z (state (begun p) bs ms os) x refl ∙ ap (λ (y : State × Outcome). y.1) there;
       }

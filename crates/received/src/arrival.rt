@@ -22,12 +22,12 @@ fn broken(x: Settings, b: u8) -> Arrival
     ensures { result ≡ broken_of x b }
 {
     if x.ignpar {
-        return Arrival::Nothing;
+        Arrival::Nothing
+    } else if x.parmrk {
+        Arrival::Silent(Unit::Broken(b))
+    } else {
+        Arrival::Silent(Unit::Zero)
     }
-    if x.parmrk {
-        return Arrival::Silent(Unit::Broken(b));
-    }
-    Arrival::Silent(Unit::Zero)
 }
 
 // 'Parity error with INPCK clear: a good byte.'
@@ -35,9 +35,10 @@ fn parity(x: Settings, b: u8) -> Arrival
     ensures { result ≡ parity_of x b }
 {
     if x.inpck {
-        return broken(x, b);
+        broken(x, b)
+    } else {
+        Arrival::Good(b)
     }
-    Arrival::Good(b)
 }
 
 // 'Break: IGNBRK, nothing. Else BRKINT, flush both and INT. Else PARMRK, store 255,0,0; else store 0.'
@@ -45,15 +46,14 @@ fn breaks(x: Settings) -> Arrival
     ensures { result ≡ break_of x }
 {
     if x.ignbrk {
-        return Arrival::Nothing;
+        Arrival::Nothing
+    } else if x.brkint {
+        Arrival::Interrupt
+    } else if x.parmrk {
+        Arrival::Silent(Unit::Broken(0))
+    } else {
+        Arrival::Silent(Unit::Zero)
     }
-    if x.brkint {
-        return Arrival::Interrupt;
-    }
-    if x.parmrk {
-        return Arrival::Silent(Unit::Broken(0));
-    }
-    Arrival::Silent(Unit::Zero)
 }
 
 // 'Hangup: ignored under CLOCAL'
@@ -61,9 +61,10 @@ fn hangs_up(x: Settings) -> Arrival
     ensures { result ≡ hangup_of x }
 {
     if x.clocal {
-        return Arrival::Nothing;
+        Arrival::Nothing
+    } else {
+        Arrival::Hangup
     }
-    Arrival::Hangup
 }
 
 // 'A hung-up port ignores them, ticks too.'

@@ -1,23 +1,24 @@
 // Document 01, 'Editing', on a port: ERASE, WERASE, KILL, REPRINT, each by what it removes or shows again.
+ghost use Rattle.std.specs.Fn.{FnOnceReturnsAtMut};
 ghost use Rattle.std.specs.Prelude.{◌≡◌, length, leb};
 ghost use Rattle.rules.specs.Editing.{erase, word_erase, kill, reprint};
 ghost use Rattle.input.specs.Contract.{Within};
 ghost use Rattle.port.specs.Layers.{Ranged, Ready};
 ghost use Rattle.received.specs.Contract.{Does};
-ghost use Rattle.received.specs.edits.Contract.{without, edits, Edited};
+ghost use Rattle.received.specs.edits.Contract.{without, Removed, edits, Edited};
 ghost use Rattle.received.specs.meaning.Meaning.{edit_of};
 
 use super::meaning::Edit;
 use editing::{Run, reprinting, words};
 use input::Input;
+use output::Output;
 use port::Port;
 
 // the current line has no unit
 fn line_empty(i: Input) -> bool
     ensures { result ≡ leb i.queue.len i.ready }
 {
-    let q = i.queue;
-    q.len <= i.ready
+    i.queue.len <= i.ready
 }
 
 // the line ends where the run begins
@@ -25,41 +26,49 @@ fn without(p: Port, n: usize, run: Run) -> Port
     requires { Within p.input n }
     ensures { result ≡ «without» p run }
 {
-    let i = p.input;
-    let input = i.cut(n, run.at);
-    Port { input: input, ..p }
+    Port {
+        input: p.input.cut(n, run.at),
+        ..p
+    }
 }
 
-// ERASE and WERASE by the character b: the units of the run are gone, and what that shows is shown; on an empty line nothing
+// the units of the run are gone, and what that shows is shown; on an empty line nothing
+fn removes<F: FnOnce(&mut [u8]) -> Output>(
+    p: Port,
+    n: usize,
+    out: &mut [u8],
+    run: Run,
+    shows: F,
+) -> Port
+    requires within { Within p.input n }
+    requires callable { F.IsAlwaysCallable shows }
+    ensures { Removed (leb p.input.queue.len p.input.ready) (FnOnceReturnsAtMut F.FnOnce shows) p run out.old result out.new }
+{
+    if line_empty(p.input) {
+        p
+    } else {
+        without(p, n, run).with_output(shows(out))
+    }
+}
+
+// ERASE and WERASE by the character b
 fn erases(p: Port, n: usize, out: &mut [u8], b: u8, run: Run) -> Port
     requires { Ranged p n (length out.old) }
     ensures { Edited p n out.old run b result out.new erase × Edited p n out.old run b result out.new word_erase }
 {
-    let i = p.input;
-    if line_empty(i) {
-        return p;
-    }
-    let x = p.settings;
-    let shorter = without(p, n, run);
-    let o = shorter.output;
-    let output = echo::of_erased(o, x, out, b, run.units);
-    shorter.with_output(output)
+    removes(p, n, out, run, |out| {
+        echo::of_erased(p.output, p.settings, out, b, run.units)
+    })
 }
 
-// KILL likewise
+// KILL by the character b
 fn kills(p: Port, n: usize, out: &mut [u8], b: u8, run: Run) -> Port
     requires { Ranged p n (length out.old) }
     ensures { Edited p n out.old run b result out.new kill }
 {
-    let i = p.input;
-    if line_empty(i) {
-        return p;
-    }
-    let x = p.settings;
-    let shorter = without(p, n, run);
-    let o = shorter.output;
-    let output = echo::of_killed(o, x, out, b, run.units);
-    shorter.with_output(output)
+    removes(p, n, out, run, |out| {
+        echo::of_killed(p.output, p.settings, out, b, run.units)
+    })
 }
 
 // REPRINT: the line stays, and is shown again
@@ -67,10 +76,7 @@ fn reprints(p: Port, bytes: &[u8], marks: &[u8], out: &mut [u8], b: u8) -> Port
     requires { Ready p bytes.now marks.now out.old }
     ensures { Does p bytes.now marks.now out.old (edits reprint b) result bytes.now marks.now out.new }
 {
-    let x = p.settings;
-    let i = p.input;
-    let o = p.output;
-    let output = reprinting::of_reprinted(o, x, i, bytes, marks, out, b);
+    let output = reprinting::of_reprinted(p.output, p.settings, p.input, bytes, marks, out, b);
     p.with_output(output)
 }
 
@@ -79,22 +85,12 @@ pub(crate) fn edit(p: Port, bytes: &[u8], marks: &[u8], out: &mut [u8], kind: Ed
     requires { Ready p bytes.now marks.now out.old }
     ensures { Does p bytes.now marks.now out.old (edits (edit_of kind) b) result bytes.now marks.now out.new }
 {
-    let x = p.settings;
     let i = p.input;
     let n = bytes.len();
     match kind {
-        Edit::Erase => {
-            let run = editing::last_unit(i, marks);
-            erases(p, n, out, b, run)
-        }
-        Edit::WordErase => {
-            let run = words::last_word(i, x, bytes, marks);
-            erases(p, n, out, b, run)
-        }
-        Edit::Kill => {
-            let run = editing::whole_line(i, marks);
-            kills(p, n, out, b, run)
-        }
+        Edit::Erase => erases(p, n, out, b, editing::last_unit(i, marks)),
+        Edit::WordErase => erases(p, n, out, b, words::last_word(i, p.settings, bytes, marks)),
+        Edit::Kill => kills(p, n, out, b, editing::whole_line(i, marks)),
         Edit::Reprint => reprints(p, bytes, marks, out, b),
     }
 }

@@ -18,14 +18,10 @@ pub fn flush_input(p: Port, n: usize, out: &[u8]) -> Port
     requires { Ranged p n (length out.now) }
     ensures { Turns p n out.now (λ z s. flushing.flush_input s) result out.now }
 {
-    let x = p.settings;
-    let i = p.input;
-    let w = p.waiting;
-    let input = i.flush(n);
-    let waiting = waiting::timer_flushed(waiting::between_bytes(x), w);
+    let between = waiting::between_bytes(p.settings);
     Port {
-        input: input,
-        waiting: waiting,
+        input: p.input.flush(n),
+        waiting: waiting::timer_flushed(between, p.waiting),
         ..p
     }
 }
@@ -35,46 +31,37 @@ pub(crate) fn overflow(p: Port, n: usize, out: &mut [u8]) -> Port
     requires { Ranged p n (length out.old) }
     ensures { Turns p n out.old fit.overflow result out.new }
 {
-    let x = p.settings;
-    if x.imaxbel {
-        let o = p.output;
-        let output = output::bell(o, x, out);
-        return p.with_output(output);
+    if p.settings.imaxbel {
+        p.with_output(output::bell(p.output, p.settings, out))
+    } else {
+        flush_input(p, n, out)
     }
-    flush_input(p, n, out)
 }
 
 // the port with what was stored; a byte stored restarts or starts the timer of a waiting read
 pub(crate) fn stored(p: Port, input: Input, output: Output) -> Port
     ensures { result ≡ assembled p input output (fit.timer_stored (flushing.between_bytes p.settings) p.settings p.waiting) }
 {
-    let x = p.settings;
-    let w = p.waiting;
-    let waiting = waiting::timer_stored(waiting::between_bytes(x), x, w);
-    Port {
-        input: input,
-        output: output,
-        waiting: waiting,
-        ..p
-    }
+    let between = waiting::between_bytes(p.settings);
+    let waiting = waiting::timer_stored(between, p.settings, p.waiting);
+    port::assemble(p, input, output, waiting)
 }
 
 // 6. 'STOP stops output, START resumes it.'
 pub(crate) fn stopped_to(p: Port, stopped: bool) -> Port
     ensures { result ≡ with_output p (stop_to stopped p.output) }
 {
-    let o = p.output;
-    let output = o.stop(stopped);
-    p.with_output(output)
+    p.with_output(p.output.stop(stopped))
 }
 
 // 4. 'set "literal next"'
 pub(crate) fn sets_literal(p: Port) -> Port
     ensures { result ≡ assembled p (literal_to true p.input) p.output p.waiting }
 {
-    let i = p.input;
-    let input = i.with_literal(true);
-    Port { input: input, ..p }
+    Port {
+        input: p.input.with_literal(true),
+        ..p
+    }
 }
 
 // 'Flushing input drops .. . Flushing output empties its queue; column and "stopped" stay.'
@@ -82,8 +69,7 @@ pub fn flush_both(p: Port, n: usize, out: &[u8]) -> Port
     requires { Ranged p n (length out.now) }
     ensures { Turns p n out.now (λ z s. flushing.flush_both s) result out.now }
 {
-    let flushed = flush_input(p, n, out);
-    flushed.flush_output(out.len())
+    flush_input(p, n, out).flush_output(out.len())
 }
 
 // 'Both queues are flushed unless NOFLSH'
@@ -91,10 +77,7 @@ fn flush_unless(p: Port, n: usize, out: &[u8], kept: bool) -> Port
     requires { Ranged p n (length out.now) }
     ensures { Turns p n out.now (λ z s. steps.flushed_unless kept s) result out.now }
 {
-    if kept {
-        return p;
-    }
-    flush_both(p, n, out)
+    if kept { p } else { flush_both(p, n, out) }
 }
 
 // 5. 'Both queues are flushed unless NOFLSH; then the byte is echoed.'
@@ -102,9 +85,6 @@ pub(crate) fn signals(p: Port, n: usize, out: &mut [u8], b: u8) -> Port
     requires { Ranged p n (length out.old) }
     ensures { Turns p n out.old (λ z s. echo.shown z (steps.flushed_unless s.settings.noflsh s) (echo.echo_of s.settings b)) result out.new }
 {
-    let x = p.settings;
-    let flushed = flush_unless(p, n, out, x.noflsh);
-    let o = flushed.output;
-    let output = echo::of_byte(o, x, out, b);
-    flushed.with_output(output)
+    let flushed = flush_unless(p, n, out, p.settings.noflsh);
+    flushed.with_output(echo::of_byte(flushed.output, p.settings, out, b))
 }

@@ -26,27 +26,17 @@ use storing::Stored;
 fn resumes(x: Settings, stopped: bool) -> bool
     ensures { result ≡ stopped_then x stopped }
 {
-    if x.ixon {
-        if x.ixany {
-            return false;
-        }
-        return stopped;
-    }
-    stopped
+    stopped && !(x.ixon && x.ixany)
 }
 
 // step 2; and 'literal next' is cleared by every good byte that does not set it
 fn begins(p: Port) -> Port
     ensures { result ≡ begun p }
 {
-    let x = p.settings;
-    let i = p.input;
-    let o = p.output;
-    let input = i.with_literal(false);
-    let output = o.stop(resumes(x, o.stopped));
+    let stopped = resumes(p.settings, p.output.stopped);
     Port {
-        input: input,
-        output: output,
+        input: p.input.with_literal(false),
+        output: p.output.stop(stopped),
         ..p
     }
 }
@@ -82,15 +72,8 @@ fn tells(meaning: Meaning, foreground: Option<Group>) -> Outcome
     ensures { Tells meaning foreground result }
 {
     match meaning {
-        Meaning::LiteralNext => Outcome::Ok,
         Meaning::Signals(signal, _) => jobs::reported(signal, foreground),
-        Meaning::Stops => Outcome::Ok,
-        Meaning::Starts => Outcome::Ok,
-        Meaning::Drops => Outcome::Ok,
-        Meaning::Edits(_, _) => Outcome::Ok,
-        Meaning::Ends(_) => Outcome::Ok,
-        Meaning::Marks => Outcome::Ok,
-        Meaning::Stores(_) => Outcome::Ok,
+        _ => Outcome::Ok,
     }
 }
 
@@ -100,16 +83,10 @@ fn good(p: Port, bytes: &mut [u8], marks: &mut [u8], out: &mut [u8], b: u8) -> R
     ensures { Reports p bytes.old marks.old out.old (λ z s. steps.good z s b) result bytes.new marks.new out.new }
 {
     let x = p.settings;
-    let i = p.input;
-    let meaning = meaning::means(x, i.literal, meaning::stripped(x, b));
-    let begun = begins(p);
-    let foreground = begun.foreground;
-    let outcome = tells(meaning, foreground);
-    let port = carries(begun, bytes, marks, out, meaning);
-    Reported {
-        port: port,
-        outcome: outcome,
-    }
+    let meaning = meaning::means(x, p.input.literal, meaning::stripped(x, b));
+    let outcome = tells(meaning, p.foreground);
+    let port = carries(begins(p), bytes, marks, out, meaning);
+    Reported { port, outcome }
 }
 
 // no signal is reported
@@ -126,10 +103,9 @@ fn quiet(p: Port) -> Reported
 fn reports(p: Port, signal: Signal, foreground: Option<Group>) -> Reported
     ensures { result ≡ record { port = p; outcome = steps.reported signal foreground } }
 {
-    let outcome = jobs::reported(signal, foreground);
     Reported {
         port: p,
-        outcome: outcome,
+        outcome: jobs::reported(signal, foreground),
     }
 }
 
@@ -138,19 +114,15 @@ fn interrupts(p: Port, n: usize, out: &[u8]) -> Reported
     requires { Ranged p n (length out.now) }
     ensures { Announces p n out.now (λ s. (flushing.flush_both s, steps.reported Signal.Int s.foreground)) result }
 {
-    let foreground = p.foreground;
-    let flushed = flushing::flush_both(p, n, out);
-    reports(flushed, Signal::Int, foreground)
+    reports(flushing::flush_both(p, n, out), Signal::Int, p.foreground)
 }
 
 // 'each tenth of a second lowers it by one'
 fn ticks(p: Port) -> Port
     ensures { result ≡ assembled p p.input p.output (steps.lowered p.waiting) }
 {
-    let w = p.waiting;
-    let waiting = waiting::lowered(w);
     Port {
-        waiting: waiting,
+        waiting: waiting::lowered(p.waiting),
         ..p
     }
 }
@@ -167,9 +139,8 @@ fn hangs_up(p: Port, n: usize, out: &[u8]) -> Reported
     requires { Ranged p n (length out.now) }
     ensures { Announces p n out.now (λ s. (steps.hung_up (flushing.flush_both s), steps.reported Signal.Hup s.foreground)) result }
 {
-    let foreground = p.foreground;
     let flushed = flushing::flush_both(p, n, out);
-    reports(hung_up(flushed), Signal::Hup, foreground)
+    reports(hung_up(flushed), Signal::Hup, p.foreground)
 }
 
 // what an event comes to is carried out
@@ -177,8 +148,7 @@ pub fn received(p: Port, bytes: &mut [u8], marks: &mut [u8], out: &mut [u8], e: 
     requires { Ready p bytes.old marks.old out.old }
     ensures { Reports p bytes.old marks.old out.old (λ z s. steps.received z s e) result bytes.new marks.new out.new }
 {
-    let arrival = arrival::arrives(p.settings, p.hung, e);
-    match arrival {
+    match arrival::arrives(p.settings, p.hung, e) {
         Arrival::Nothing => quiet(p),
         Arrival::Good(b) => good(p, bytes, marks, out, b),
         Arrival::Silent(unit) => quiet(storing::stores(p, bytes, marks, out, Stored::Silent(unit))),

@@ -14,10 +14,7 @@ const RETURN: u8 = 13;
 pub(crate) fn stripped(x: Settings, b: u8) -> u8
     ensures { result ≡ steps.step1 x b }
 {
-    if x.istrip {
-        return b % 128;
-    }
-    b
+    if x.istrip { b % 128 } else { b }
 }
 
 // 7. '13: IGNCR drops, else ICRNL makes it 10. A received 10 becomes 13 under INLCR. One mapping only.'
@@ -25,12 +22,12 @@ fn mapped(x: Settings, b: u8) -> u8
     ensures { result ≡ steps.mapped x b }
 {
     if b == RETURN && x.icrnl {
-        return NEWLINE;
+        NEWLINE
+    } else if b == NEWLINE && x.inlcr {
+        RETURN
+    } else {
+        b
     }
-    if b == NEWLINE && x.inlcr {
-        return RETURN;
-    }
-    b
 }
 
 // 8. 'ERASE, WERASE, KILL, REPRINT'
@@ -67,13 +64,7 @@ fn special(flag: bool, b: u8, character: u8) -> bool
 fn ends_line(x: Settings, b: u8) -> bool
     ensures { result ≡ (x.icanon && (eqb b 10 || rule.is b x.eol || rule.is b x.eol2)) }
 {
-    if !x.icanon {
-        return false;
-    }
-    if b == NEWLINE {
-        return true;
-    }
-    settings::is(b, x.eol) || settings::is(b, x.eol2)
+    x.icanon && (b == NEWLINE || settings::is(b, x.eol) || settings::is(b, x.eol2))
 }
 
 // 9. 'Store.'
@@ -81,12 +72,12 @@ fn step9(x: Settings, b: u8) -> Meaning
     ensures { meaning_of x result ≡ steps.step9 x b }
 {
     if ends_line(x, b) {
-        return Meaning::Ends(b);
+        Meaning::Ends(b)
+    } else if special(x.icanon, b, x.eof) {
+        Meaning::Marks
+    } else {
+        Meaning::Stores(b)
     }
-    if special(x.icanon, b, x.eof) {
-        return Meaning::Marks;
-    }
-    Meaning::Stores(b)
 }
 
 // 8. 'ICANON: ERASE, WERASE, KILL, REPRINT edit and are consumed.'
@@ -94,18 +85,16 @@ fn step8(x: Settings, b: u8) -> Meaning
     ensures { meaning_of x result ≡ steps.step8 x b }
 {
     if special(x.icanon, b, x.erase) {
-        return Meaning::Edits(Edit::Erase, b);
+        Meaning::Edits(Edit::Erase, b)
+    } else if special(x.icanon, b, x.werase) {
+        Meaning::Edits(Edit::WordErase, b)
+    } else if special(x.icanon, b, x.kill) {
+        Meaning::Edits(Edit::Kill, b)
+    } else if special(x.icanon, b, x.reprint) {
+        Meaning::Edits(Edit::Reprint, b)
+    } else {
+        step9(x, b)
     }
-    if special(x.icanon, b, x.werase) {
-        return Meaning::Edits(Edit::WordErase, b);
-    }
-    if special(x.icanon, b, x.kill) {
-        return Meaning::Edits(Edit::Kill, b);
-    }
-    if special(x.icanon, b, x.reprint) {
-        return Meaning::Edits(Edit::Reprint, b);
-    }
-    step9(x, b)
 }
 
 // 7. '13: IGNCR drops', else it is mapped
@@ -113,9 +102,10 @@ fn step7(x: Settings, b: u8) -> Meaning
     ensures { meaning_of x result ≡ steps.step7 x b }
 {
     if b == RETURN && x.igncr {
-        return Meaning::Drops;
+        Meaning::Drops
+    } else {
+        step8(x, mapped(x, b))
     }
-    step8(x, mapped(x, b))
 }
 
 // 6. 'IXON: STOP stops output, START resumes it. Consumed, no echo.'
@@ -123,12 +113,12 @@ fn step6(x: Settings, b: u8) -> Meaning
     ensures { meaning_of x result ≡ steps.step6 x b }
 {
     if special(x.ixon, b, x.stop) {
-        return Meaning::Stops;
+        Meaning::Stops
+    } else if special(x.ixon, b, x.start) {
+        Meaning::Starts
+    } else {
+        step7(x, b)
     }
-    if special(x.ixon, b, x.start) {
-        return Meaning::Starts;
-    }
-    step7(x, b)
 }
 
 // 5. 'ISIG: INTR, QUIT, SUSP signal INT, QUIT, TSTP.'
@@ -136,15 +126,14 @@ fn step5(x: Settings, b: u8) -> Meaning
     ensures { meaning_of x result ≡ steps.step5 x b }
 {
     if special(x.isig, b, x.intr) {
-        return Meaning::Signals(Signal::Int, b);
+        Meaning::Signals(Signal::Int, b)
+    } else if special(x.isig, b, x.quit) {
+        Meaning::Signals(Signal::Quit, b)
+    } else if special(x.isig, b, x.susp) {
+        Meaning::Signals(Signal::Tstp, b)
+    } else {
+        step6(x, b)
     }
-    if special(x.isig, b, x.quit) {
-        return Meaning::Signals(Signal::Quit, b);
-    }
-    if special(x.isig, b, x.susp) {
-        return Meaning::Signals(Signal::Tstp, b);
-    }
-    step6(x, b)
 }
 
 // What a good byte means after step 1.
@@ -154,10 +143,10 @@ pub(crate) fn means(x: Settings, literal: bool, b: u8) -> Meaning
     ensures { meaning_of x result ≡ steps.step3 x literal b }
 {
     if literal {
-        return Meaning::Stores(b);
+        Meaning::Stores(b)
+    } else if special(x.iexten, b, x.lnext) {
+        Meaning::LiteralNext
+    } else {
+        step5(x, b)
     }
-    if special(x.iexten, b, x.lnext) {
-        return Meaning::LiteralNext;
-    }
-    step5(x, b)
 }

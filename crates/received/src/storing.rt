@@ -36,8 +36,7 @@ fn fits(p: Port, n: usize, what: Stored) -> bool
             units::unit_fits(i, n, p.line, x.icanon, units::size(unit))
         }
         Stored::Silent(silent) => units::unit_fits(i, n, p.line, x.icanon, units::size(silent)),
-        Stored::Delimiter(_) => units::end_fits(i, n),
-        Stored::Mark => units::end_fits(i, n),
+        Stored::Delimiter(_) | Stored::Mark => units::end_fits(i, n),
     }
 }
 
@@ -47,10 +46,7 @@ fn kept(i: Input, x: Settings, bytes: &mut [u8], marks: &mut [u8], what: Stored)
     ensures { InputBecomes i bytes.old marks.old (input_with x (get i bytes.old marks.old) what) result bytes.new marks.new }
 {
     match what {
-        Stored::Byte(b) => {
-            let unit = units::unit_of(x, b);
-            units::store(i, bytes, marks, x.icanon, unit)
-        }
+        Stored::Byte(b) => units::store(i, bytes, marks, x.icanon, units::unit_of(x, b)),
         Stored::Silent(silent) => units::store(i, bytes, marks, x.icanon, silent),
         Stored::Delimiter(b) => units::end(i, bytes, marks, b),
         Stored::Mark => units::end_of_file(i, bytes, marks),
@@ -63,10 +59,8 @@ fn shown(o: Output, x: Settings, out: &mut [u8], what: Stored) -> Output
     ensures { Echoes x o out.old (bytes_shown x what) result out.new }
 {
     match what {
-        Stored::Byte(b) => echo::of_stored(o, x, out, b),
-        Stored::Silent(_) => o,
-        Stored::Delimiter(b) => echo::of_stored(o, x, out, b),
-        Stored::Mark => o,
+        Stored::Byte(b) | Stored::Delimiter(b) => echo::of_stored(o, x, out, b),
+        Stored::Silent(_) | Stored::Mark => o,
     }
 }
 
@@ -81,14 +75,12 @@ pub(crate) fn stores(
     requires { Ready p bytes.old marks.old out.old }
     ensures { Does p bytes.old marks.old out.old (rule.storing what) result bytes.new marks.new out.new }
 {
-    let x = p.settings;
-    let i = p.input;
-    let o = p.output;
     let n = bytes.len();
     if fits(p, n, what) {
-        let input = kept(i, x, bytes, marks, what);
-        let output = shown(o, x, out, what);
-        return flushing::stored(p, input, output);
+        let input = kept(p.input, p.settings, bytes, marks, what);
+        let output = shown(p.output, p.settings, out, what);
+        flushing::stored(p, input, output)
+    } else {
+        flushing::overflow(p, n, out)
     }
-    flushing::overflow(p, n, out)
 }

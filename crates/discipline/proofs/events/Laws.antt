@@ -15,14 +15,9 @@ use Rattle.port.specs.declared.Answered.{Answered}
 use Rattle.port.specs.Layers.{state, sizes_of, Becomes, Ranged, Turns}
 use Rattle.received.specs.Contract.{Answers}
 use Rattle.received.specs.declared.Reported.{Reported}
-use Rattle.port.proofs.Calls.{bytes_long, within, leaves_of, there, here, asks_as, ranged_ranged, turned_of}
+use Rattle.port.proofs.Calls.{bytes_long, within, leaves_of, there, here, ranged_ranged, turned_of}
 use Rattle.port.specs.Calls.{step_of, Calls, ranged, Asks}
-use mathlib.Core.Bool.{Bool, true, false}
-use lib.Dec.{eqb}
-use borrow.Author.Tests.{eq-eqb, ne_eqb}
-use Rattle.rules.specs.declared.Outcome.TheVariants.{Ok, Refused}
-use Rattle.rules.specs.declared.Refusal.TheVariants.{OutOfRange}
-use Rattle.rules.specs.Refusals.{says}
+use Rattle.rules.specs.declared.Outcome.TheVariants.{Ok}
 use Rattle.rules.specs.Flushing as flushing
 use Rattle.output.specs.Contract as output
 use Rattle.port.specs.Sending.{flushed}
@@ -104,36 +99,16 @@ module _ (p : Port) (bs ms os : List ℕ) (q : Port) (n : ℕ) (en : n ≡ capac
     abbrev s : State
     s = get p bs ms os
 
-    -- the tests of the choice
-    chosen : (one two three : Bool) → eqb choice 1 ≡ one → eqb choice 2 ≡ two → eqb choice 3 ≡ three
-        → flushing.flushed_on one two three s ≡ flushing.flushed s choice
-    chosen one two three e₁ e₂ e₃ =
-        sym (ap (λ (y : Bool). flushing.flushed_on y (eqb choice 2) (eqb choice 3) s) e₁ ∙ ap (λ (y : Bool). flushing.flushed_on one y (eqb choice 3) s) e₂
-        ∙ ap (λ (y : Bool). flushing.flushed_on one two y s) e₃)
-
     pub flush_1 : choice ≡ 1 → Turns q n os (λ z s. flushing.flush_input s) t os → a ≡ record { port = t; answer = record { outcome = Ok; count = 0 } }
         → Asks p bs ms os (flushing.flushed s choice) a
-    flush_1 e h ea =
-        asks_as p bs ms os (flushing.flush_input s, says Ok 0) (flushing.flushed s choice) a
-        (chosen true (eqb choice 2) (eqb choice 3) (eq-eqb choice 1 e) refl refl) (turned_of p bs ms os q n en eq flushing.flush_input t a h ea)
+    flush_1 e h ea = rw e (turned_of p bs ms os q n en eq flushing.flush_input t a h ea)
 
-    pub flush_2 : (choice ≡ 1 → ⊥) → choice ≡ 2 → t ≡ flushed q (length os) → a ≡ record { port = t; answer = record { outcome = Ok; count = 0 } }
+    pub flush_2 : choice ≡ 2 → t ≡ flushed q (length os) → a ≡ record { port = t; answer = record { outcome = Ok; count = 0 } }
         → Asks p bs ms os (flushing.flushed s choice) a
-    flush_2 n₁ e et ea =
-        asks_as p bs ms os (flushing.flush_output s, says Ok 0) (flushing.flushed s choice) a
-        (chosen false true (eqb choice 3) (ne_eqb choice 1 n₁) (eq-eqb choice 2 e) refl)
+    flush_2 e et ea =
+        rw e
         (turned_of p bs ms os q n en eq flushing.flush_output t a (flushed_output q t n os (ranged_ranged p bs ms os q n en eq) et) ea)
 
-    pub flush_3 : (choice ≡ 1 → ⊥) → (choice ≡ 2 → ⊥) → choice ≡ 3 → Turns q n os (λ z s. flushing.flush_both s) t os
-        → a ≡ record { port = t; answer = record { outcome = Ok; count = 0 } } → Asks p bs ms os (flushing.flushed s choice) a
-    flush_3 n₁ n₂ e h ea =
-        asks_as p bs ms os (flushing.flush_both s, says Ok 0) (flushing.flushed s choice) a
-        (chosen false false true (ne_eqb choice 1 n₁) (ne_eqb choice 2 n₂) (eq-eqb choice 3 e)) (turned_of p bs ms os q n en eq flushing.flush_both t a h ea)
-
-    pub flush_none : (choice ≡ 1 → ⊥) → (choice ≡ 2 → ⊥) → (choice ≡ 3 → ⊥)
-        → a ≡ record { port = p; answer = record { outcome = Refused OutOfRange; count = 0 } }
+    pub flush_3 : choice ≡ 3 → Turns q n os (λ z s. flushing.flush_both s) t os → a ≡ record { port = t; answer = record { outcome = Ok; count = 0 } }
         → Asks p bs ms os (flushing.flushed s choice) a
-    flush_none n₁ n₂ n₃ ea =
-        asks_as p bs ms os (s, says (Refused OutOfRange) 0) (flushing.flushed s choice) a
-        (chosen false false false (ne_eqb choice 1 n₁) (ne_eqb choice 2 n₂) (ne_eqb choice 3 n₃))
-        (subst (λ (y : Answered). Asks p bs ms os (s, says (Refused OutOfRange) 0) y) (sym ea) (record { answer = refl; keeps = refl }))
+    flush_3 e h ea = rw e (turned_of p bs ms os q n en eq flushing.flush_both t a h ea)

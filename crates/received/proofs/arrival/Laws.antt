@@ -4,17 +4,12 @@ use mathlib.Core.Path.{◌≡◌, refl}
 use mathlib.Core.Bool.{Bool, true, false, cond}
 use Rattle.rules.specs.declared.Event.{Event}
 use Rattle.rules.specs.declared.Event.TheVariants.{Good, Parity, Framing, Break, Tick, Hangup}
-use Rattle.rules.specs.declared.Settings.{Settings}
 use Rattle.rules.specs.Sizes.{Sizes, State}
 use Rattle.rules.specs.Received as steps
 use Rattle.input.specs.declared.Unit.TheVariants.{Zero, Broken}
 use Rattle.received.specs.arrival.Arrival.{event_of, arrival_of, carried}
 use Rattle.received.specs.declared.arrival.Arrival.{Arrival}
 use Rattle.received.specs.declared.arrival.Arrival.TheVariants.{Nothing, Good as GoodByte, Silent, Interrupt, Hangup as HangsUp}
-
--- in the arm of one event, on a port that is not hung up
-pub comes : {e k : Event} {r : Arrival} (x : Settings) (hung : Bool) → hung ≡ false → e ≡ k → r ≡ event_of x k → r ≡ arrival_of x hung e
-comes x hung h ee er = simp (h, ee) er
 
 module _ (z : Sizes) (s : State) where
   broken_as : (b : ℕ) (ignored marked : Bool)

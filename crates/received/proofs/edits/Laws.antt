@@ -24,7 +24,7 @@ use Rattle.port.specs.Layers.{state, sizes_of, units_of, Ranged, Ready, Becomes}
 use Rattle.port.proofs.Layers.{as_state, as_assembled, output_stays, stays}
 use Rattle.received.proofs.flushing.Laws.{then_shown}
 use Rattle.received.specs.Contract.{Does}
-use Rattle.received.specs.edits.Contract.{without, edits, Edited}
+use Rattle.received.specs.edits.Contract.{without, Removed, edits, Edited}
 
 no_places : (l : List Place) → length l ≤ 0 → l ≡ []
 no_places [] le = refl
@@ -90,6 +90,15 @@ module _ (p : Port) (n : ℕ) (os : List ℕ) (g : Ranged p n (length os)) (run 
       (as_assembled p (without p run) q bs ms os bs ms os w eq cut)
       (get_room p.output os)
       (subst (λ (y : List ℕ). Echoes p.settings q.output os y o os') bytes k) er)
+
+  -- what is left of an edit, where its echo is what Shows says
+  pub removed_as : (e : Edit) (t : Bool) (Shows : List ℕ → Output → List ℕ → Type 0) (r : Port) (os' : List ℕ) (shows : ℕ → List ℕ)
+      → Removing e → ((k : ℕ) (us : List (List Place)) → shows k ≡ edit_echo p.settings e b k us) → t ≡ leb p.input.queue.len p.input.ready
+      → ((o : Output) → Shows os o os' → Echoes p.settings p.output os (shows run.units) o os') → Removed t Shows p run os r os'
+      → Edited p n os run b r os' e
+  removed_as e true Shows r os' shows none echo et says h = rw (h.0, h.1) (nothing_edited e true none et refl)
+  removed_as e false Shows r os' shows none echo et says h =
+      removed_shown e false (without p run) r h.0 os' shows echo et refl refl (says h.0 h.1) h.2
 
 ---- REPRINT on a port: the line stays, and its echo is shown
 

@@ -32,7 +32,7 @@ overflow_add-result c =
     omega (
       arith,
       t.ensures,
-      c.taken-more.ensures,
+      c.taken.ensures,
       ap (λ (y : Outcomes). y.answer.count) g,
       count_le b.result.port m (drop a.result.answer.count src),
       length-drop a.result.answer.count src,
@@ -56,7 +56,7 @@ shape_of-out c =
 pub returns : goal.returns
 returns c =
     let w = c.write-rest in
-    let at-taken2 = c.taken-given in
+    let at-taken2 = c.taken-2 in
     let b = c.transmit-sent in
     let t = c.taken-n in
     let a = c.write-first in
@@ -70,6 +70,6 @@ returns c =
       port = all.port;
       slice = all.slice;
       buffer = all.buffer;
-      written = ap₂ ◌+◌ t.ensures c.taken-more.ensures ∙ all.written;
+      written = ap₂ ◌+◌ t.ensures c.taken.ensures ∙ all.written;
       given = at-taken2.ensures ∙ all.given;
     }

@@ -5,11 +5,4 @@ use Rattle.discipline.proofs.verdicts.foreground.Goals as goal
 
 pub returns-then-too_large : goal.returns-then-too_large
 unfolding get
-returns-then-too_large c = simp (sym c.too_large.ensures ∙ c.if-too_large.true) c.says.ensures
-
-pub returns : goal.returns
-unfolding get
-returns c =
-    let at-group-of = c.group_of-foreground in
-    simp (sym c.too_large.ensures ∙ c.if-too_large.false)
-    (c.says-2.ensures ∙ simp (c.with_group.ensures, at-group-of.ensures))
+returns-then-too_large c = simp (sym c.too_large.ensures ∙ c.if-too_large.true) c.refuses.ensures

@@ -1,5 +1,0 @@
--- `discipline::events::hangup` meets its contract: it is the promise of `receive` for that event. Assumes nothing.
-use Rattle.discipline.proofs.events.hangup.Goals as goal
-
-pub returns : goal.returns
-returns c = c.receive.ensures

@@ -1,8 +1,0 @@
--- `received::arrival::hangs_up` meets its contract. Assumes nothing.
-use Rattle.received.proofs.arrival.hangs_up.Goals as goal
-
-pub returns-then-x : goal.returns-then-x
-returns-then-x c = simp c.if-x.true
-
-pub returns : goal.returns
-returns c = simp c.if-x.false
