@@ -168,22 +168,21 @@ pub fn whole(input: &[u8], dst: &mut [u8]) -> usize
     let mut out = [0u8; Port::OUTPUT];
     let mut kept = [0u8; Stream::KEPT];
     let mut stream = Stream::start();
-    let mut at = 0;
+    let mut rest = input;
     let mut written = 0;
-    while at < input.len() {
+    while !rest.is_empty() {
         let fed = feed(
             stream,
             &mut bytes,
             &mut marks,
             &mut out,
             &mut kept,
-            &input[at..],
+            rest,
             &mut dst[written..],
         );
         stream = fed.stream;
-        at += fed.used;
+        rest = &rest[fed.used..];
         written += fed.length;
     }
-    let length = finish(stream, &kept, &mut dst[written..]);
-    written + length
+    written + finish(stream, &kept, &mut dst[written..])
 }

@@ -16,7 +16,7 @@ use trace::stream::Stream;
 // A piece of the input is fed, and each line written: the stream after it.
 fn pass<R: Print>(
     rt: &R,
-    stream: Stream,
+    mut stream: Stream,
     bytes: &mut [u8],
     marks: &mut [u8],
     out: &mut [u8],
@@ -26,17 +26,14 @@ fn pass<R: Print>(
     ensures { IfOk result (λ r. Passes stream bytes.old marks.old out.old kept.old piece.now r bytes.new marks.new out.new kept.new) }
 {
     let mut line = [0u8; Stream::LINE];
-    let mut next = stream;
-    let mut at = 0;
-    while at < piece.len() {
-        let fed = stream::feed(next, bytes, marks, out, kept, &piece[at..], &mut line);
-        let n = fed.length;
-        let written = rt.write_all(&line[..n]);
-        next = fed.stream;
-        at += fed.used;
-        written?;
+    let mut rest = piece;
+    while !rest.is_empty() {
+        let fed = stream::feed(stream, bytes, marks, out, kept, rest, &mut line);
+        rt.write_all(&line[..fed.length])?;
+        stream = fed.stream;
+        rest = &rest[fed.used..];
     }
-    Ok(next)
+    Ok(stream)
 }
 
 // as many bytes as are asked for at once

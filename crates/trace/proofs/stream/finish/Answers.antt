@@ -7,4 +7,5 @@ returns-then-stream-ge-MOST-clause-prints c =
     last_full c.args.stream c.args.kept.now c.if-stream.false c.begun.ensures.value c.if-begun-eq0.false c.if-stream-ge-MOST.true c.put_full.ensures
 
 pub returns-clause-prints : goal.returns-clause-prints
-returns-clause-prints c = last_cut c.args.stream c.args.kept.now c.if-stream.false c.begun.ensures.value c.if-begun-eq0.false c.if-stream-ge-MOST.false c.put_cut.ensures
+returns-clause-prints c =
+    last_cut c.args.stream c.args.kept.now c.if-stream.false c.begun.ensures.value c.if-begun-eq0.false c.if-stream-ge-MOST.false c.put_cut.ensures
