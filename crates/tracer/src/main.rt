@@ -39,16 +39,9 @@ fn pass<R: Print>(
 // as many bytes as are asked for at once
 const BUFFER: usize = 65536;
 
-// What failed and why goes to standard error.
-fn failed<R: Eprint>(rt: &R, what: &str, error: io::Error) -> ExitCode {
-    match eprintln!(rt; "{what}: {error}") {
-        Ok(()) => ExitCode::FAILURE,
-        Err(_) => ExitCode::FAILURE,
-    }
-}
-
-// A proved loop has to end, and nothing says that the input does: the turns are counted down from a number that no run uses up.
-fn main(rt: HostRuntime) -> ExitCode {
+// Pieces of the input are passed until all is done or the input at its end, and the last line is written; or what failed, and why.
+// A proved loop has to end, and nothing says that the input does: the turns are counted up to a number that no run reaches.
+fn run(rt: &HostRuntime) -> Result<(), (&'static str, io::Error)> {
     let mut bytes = [0u8; Port::INPUT];
     let mut marks = [0u8; Port::INPUT];
     let mut out = [0u8; Port::OUTPUT];
@@ -56,33 +49,37 @@ fn main(rt: HostRuntime) -> ExitCode {
     let mut buf = [0u8; BUFFER];
     let mut stream = Stream::start();
     let mut input = rt.stdin();
-    let mut turns = u64::MAX;
-    while turns > 0 && !stream.done {
-        let n = match input.read(&mut buf) {
-            Ok(n) => n,
-            Err(e) => return failed(&rt, "read", e),
-        };
+    for _ in 0..u64::MAX {
+        if stream.done {
+            break;
+        }
+        let n = input.read(&mut buf).map_err(|e| ("read", e))?;
         if n == 0 {
             break;
         }
-        stream = match pass(
-            &rt,
+        stream = pass(
+            rt,
             stream,
             &mut bytes,
             &mut marks,
             &mut out,
             &mut kept,
             &buf[..n],
-        ) {
-            Ok(next) => next,
-            Err(e) => return failed(&rt, "write", e),
-        };
-        turns -= 1;
+        )
+        .map_err(|e| ("write", e))?;
     }
     let mut line = [0u8; Stream::LINE];
     let n = stream::finish(stream, &kept, &mut line);
-    match rt.write_all(&line[..n]) {
+    rt.write_all(&line[..n]).map_err(|e| ("write", e))
+}
+
+// What failed and why goes to standard error.
+fn main(rt: HostRuntime) -> ExitCode {
+    match run(&rt) {
         Ok(()) => ExitCode::SUCCESS,
-        Err(e) => failed(&rt, "write", e),
+        Err((what, error)) => {
+            let _ = eprintln!(rt; "{what}: {error}");
+            ExitCode::FAILURE
+        }
     }
 }
