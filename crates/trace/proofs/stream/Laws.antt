@@ -3,7 +3,7 @@ use Prim.Native.Nat.{ℕ, zero, suc, ◌+◌, ◌-◌, ◌≤◌, ◌<◌}
 use native.Mathlib.Omega.{arith}
 use mathlib.Core.Path.{◌≡◌, refl, sym, ap, ap₂, subst, ◌∙◌}
 use mathlib.Core.Bool.{Bool, true, false, ◌||◌, cond}
-use mathlib.Core.List.{List, [], ◌++◌}
+use mathlib.Core.List.{List, [], ◌++◌, append-nil}
 use mathlib.Core.Logic.{⊎_elim}
 use Rattle.queue.proofs.Rings.{lt_or_le}
 use lib.ListN.{length}
@@ -12,7 +12,6 @@ use lib.Seq.{take-nil}
 use borrow.Author.Tests.{ltb-true, le-leb, lt-leb, ne_eqb, eqb-true, eqb-false}
 use Rattle.rules.specs.Sizes.{Sizes, State}
 use Rattle.rules.specs.Trace.{cut_line, full_line, trace_from}
-use Rattle.rules.proofs.OutputLaws.{append_nil}
 use Rattle.port.specs.State.{sizes, get}
 use Rattle.records.specs.lines.Puts.{Prints}
 use Rattle.trace.specs.gathering.Contract.{size_of, is_open, come, pending}
@@ -84,7 +83,7 @@ module _ (stream : Stream) (bs ms os kept : List ℕ) where
   at_end_lem e = by_done stream.done refl
     where
       no_rest : waits ++ [] ≡ waits
-      no_rest = append_nil waits
+      no_rest = append-nil waits
 
       n_rest : length (waits ++ []) ≡ length waits
       n_rest = ap length no_rest

@@ -3,12 +3,11 @@ use Prim.Native.Nat.{ℕ, ◌+◌, ◌-◌, ◌≤◌, ◌<◌}
 use native.Mathlib.Omega.{arith}
 use mathlib.Core.Path.{◌≡◌, refl, sym, ap, ◌∙◌}
 use mathlib.Core.Bool.{Bool, true, false, cond}
-use mathlib.Core.List.{List, [], ◌++◌}
+use mathlib.Core.List.{List, [], ◌++◌, append-nil}
 use mathlib.Core.Logic.{⊎_elim, ◌⊎◌}
 use lib.ListN.{length, drop, length-append}
 use borrow.Author.Tests.{ltb-false}
 use Rattle.rules.specs.Trace.{full_line, trace_from}
-use Rattle.rules.proofs.OutputLaws.{append_nil}
 use Rattle.port.specs.State.{sizes, get}
 use Rattle.records.specs.lines.Puts.{Prints}
 use Rattle.trace.specs.gathering.Contract.{size_of, is_open, come, pending, Gathers}
@@ -58,7 +57,7 @@ module _ {stream : Stream} {kept piece l : List ℕ} where
             ∙ trace_full (sizes stream.port bs ms os) stream.index (get stream.port bs ms os) (most_records - stream.index)
             (pending kept stream.have ++ (piece ++ rest)) (omega arith)
             (λ f. some (omega (arith, f, length-append (pending kept stream.have) (piece ++ rest), length-append piece rest)))
-            ∙ sym (append_nil (full_line stream.index));
+            ∙ sym (append-nil (full_line stream.index));
       }
 
 -- bytes of the piece are kept behind those of the record that has begun

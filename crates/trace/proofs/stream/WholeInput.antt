@@ -3,14 +3,13 @@ use Prim.Native.Nat.{ℕ, ◌+◌, ◌-◌, ◌≤◌, ◌<◌, min}
 use native.Mathlib.Omega.{arith}
 use Rattle.queue.proofs.Rings.{lt_or_le}
 use mathlib.Core.Path.{◌≡◌, refl, sym, ap, ap₂, subst, ◌∙◌}
-use mathlib.Core.List.{List, [], ◌++◌, append_assoc}
+use mathlib.Core.List.{List, [], ◌++◌, append_assoc, append-nil}
 use mathlib.Core.Logic.{⊎_elim}
 use Rattle.std.proofs.lemmas.List.{nil_from_length}
 use lib.ListN.{length, take, drop, length-append, length-take, length-drop, drop_of_length-le}
 use lib.Seq.{take_at, drop_at, take_all, take-nil, take-append-le, take-append-add, drop-drop}
 use borrow.Rule.Slice.PartMut.{put_mid}
 use Rattle.rules.specs.Trace.{trace}
-use Rattle.rules.proofs.OutputLaws.{append_nil}
 use Rattle.records.specs.lines.Puts.{Prints}
 use Rattle.trace.specs.declared.stream.Stream.{Stream}
 use Rattle.trace.specs.declared.stream.Fed.{Fed}
@@ -20,9 +19,6 @@ use Rattle.trace.proofs.stream.Pieces.{future_begins}
 use Rattle.trace.specs.Numbers.{most_kept}
 
 ---- A line more in the buffer
-
-none_behind : (k : ℕ) (l : List ℕ) → length l ≤ k → drop k l ≡ []
-none_behind k l le = drop_of_length-le l {i = k} le
 
 -- the buffer d₀ holds as much of the text p as it has places for
 abbrev Holding : List ℕ → List ℕ → List ℕ
@@ -66,13 +62,13 @@ module _ (d₀ p t : List ℕ) where
   -- there is none
   full : N ≤ length p → take w (Holding d₀ p) ++ (take (length (drop w (Holding d₀ p))) t ++ drop (length t) (drop w (Holding d₀ p))) ≡ Holding d₀ (p ++ t)
   full le =
-      let none : drop w (Holding d₀ p) ≡ [] = none_behind w (Holding d₀ p) (omega (arith, long_holding)) in
+      let none : drop w (Holding d₀ p) ≡ [] = drop_of_length-le (Holding d₀ p) (omega (arith, long_holding)) in
       let front : take w (Holding d₀ p) ≡ Holding d₀ p = take_all w (Holding d₀ p) (omega (arith, long_holding)) in
       ap₂ (λ (x y : List ℕ). x ++ (take (length y) t ++ drop (length t) y)) front none
-      ∙ ap (λ (y : List ℕ). Holding d₀ p ++ y) (none_behind (length t) [] (omega arith))
-      ∙ append_nil (Holding d₀ p)
+      ∙ ap (λ (y : List ℕ). Holding d₀ p ++ y) (drop_of_length-le [] {i = length t} (omega arith))
+      ∙ append-nil (Holding d₀ p)
       ∙ ap₂ (λ (x y : List ℕ). x ++ y) (sym (take-append-le N p t le))
-      (none_behind (length p) d₀ le ∙ sym (none_behind (length (p ++ t)) d₀ (omega (arith, length-append p t))))
+      (drop_of_length-le d₀ le ∙ sym (drop_of_length-le d₀ {i = length (p ++ t)} (omega (arith, length-append p t))))
 
   -- the text t is printed behind p
   pub printed_behind : (k : ℕ) (m : List ℕ) → Prints (drop w (Holding d₀ p)) t k m
@@ -93,8 +89,8 @@ module _ (w : ℕ) (dst : List ℕ) (le : w ≤ length dst) where
 
   pub laid_back : (m : List ℕ) → put_mid w (length dst - w) dst m ≡ take w dst ++ m
   laid_back m =
-      ap (λ (y : List ℕ). take w dst ++ y) (ap (λ (y : List ℕ). m ++ y) (none_behind (length dst - w) (drop w dst) (omega (arith, length-drop w dst)))
-      ∙ append_nil m)
+      ap (λ (y : List ℕ). take w dst ++ y) (ap (λ (y : List ℕ). m ++ y) (drop_of_length-le (drop w dst) (omega (arith, length-drop w dst)))
+      ∙ append-nil m)
 
 ---- whole
 
@@ -152,10 +148,10 @@ module _ {input d₀ bs ms os kept dst : List ℕ} {s : Stream} {rest : List ℕ
         written = b.1;
         ahead =
             h.ahead
-            ∙ ap (λ (y : List ℕ). h.text ++ future s bs ms os kept y) (sym (append_nil rest))
+            ∙ ap (λ (y : List ℕ). h.text ++ future s bs ms os kept y) (sym (append-nil rest))
             ∙ ap (λ (y : List ℕ). h.text ++ y) (f.along [])
             ∙ sym (append_assoc h.text f.text (future r.stream bs' ms' os' kept' (drop r.used rest ++ [])))
-            ∙ ap (λ (y : List ℕ). (h.text ++ f.text) ++ future r.stream bs' ms' os' kept' y) (append_nil (drop r.used rest) ∙ sym all);
+            ∙ ap (λ (y : List ℕ). (h.text ++ f.text) ++ future r.stream bs' ms' os' kept' y) (append-nil (drop r.used rest) ∙ sym all);
         bytes = eb ∙ h.bytes;
         marks = em ∙ h.marks;
         out = eo ∙ h.out;
@@ -171,7 +167,3 @@ module _ {input d₀ bs ms os kept dst : List ℕ} {s : Stream} {rest : List ℕ
         count = b.1 ∙ ap (λ (y : List ℕ). min (length y) (length d₀)) (sym all);
         buffer = laid_back w dst running_room m ∙ b.0 ∙ ap (λ (y : List ℕ). Holding d₀ y) (sym all);
       }
-
--- what holds a text is as long as before
-pub printed_long : {l t : List ℕ} {k : ℕ} {m : List ℕ} → Prints l t k m → length m ≡ length l
-printed_long {l} {t} h = ap length h.buffer ∙ long_holding l t []
