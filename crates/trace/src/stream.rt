@@ -19,15 +19,14 @@ pub struct Stream {
     pub done: bool,
 }
 
-// What bytes of a piece come to: how many are used, where the stream stands then, the length of the line printed for them; or that
-// with them a record is complete, and is to be carried out.
+// What bytes of a piece come to: nothing, since all is done or there are none; `full`, with the length of its line; so many are used, and
+// so many of a record that is open have come; or so many are used, and with them a record is complete, and is to be carried out.
 #[derive(Clone, Copy)]
-struct Taken {
-    used: usize,
-    have: usize,
-    done: bool,
-    length: usize,
-    complete: bool,
+enum Taken {
+    Nothing,
+    Full { length: usize },
+    Open { used: usize, have: usize },
+    Complete { used: usize },
 }
 
 impl Stream {
@@ -49,9 +48,8 @@ impl Stream {
     pub fn start() -> Stream
         ensures { result ≡ beginning }
     {
-        let port = Port::fresh();
         Stream {
-            port: port,
+            port: Port::fresh(),
             index: 0,
             have: 0, // nothing has come
             done: false,
@@ -60,59 +58,32 @@ impl Stream {
 }
 
 // the next bytes of the input, up to the end of a record
-fn take_in(stream: Stream, kept: &mut [u8], piece: &[u8], line: &mut [u8]) -> Taken
-    requires { length kept.old ≡ most_kept }
+fn take_in(stream: Stream, kept: &mut [u8; Stream::KEPT], piece: &[u8], line: &mut [u8]) -> Taken
     ensures { TakesIn stream kept.old piece.now line.old result kept.new line.new }
 {
-    if stream.done {
-        return Taken {
-            used: piece.len(),
-            have: stream.have,
-            done: true,
-            length: 0,
-            complete: false,
-        };
-    }
-    if piece.len() == 0 {
-        return Taken {
-            used: 0,
-            have: stream.have,
-            done: false,
-            length: 0,
-            complete: false,
-        };
+    if stream.done || piece.is_empty() {
+        return Taken::Nothing;
     }
     if stream.index >= Stream::MOST { // 'At most 65,535 records are read'
         let length = lines::put_full(line, stream.index);
-        return Taken {
-            used: piece.len(),
-            have: 0,
-            done: true,
-            length: length,
-            complete: false,
-        };
+        return Taken::Full { length };
     }
-    let have = gathering::begun(kept, stream.have);
-    let used = gathering::gather(kept, have, piece);
-    let now = have + used;
-    let open = gathering::is_open(kept, now);
-    Taken {
-        used: used,
-        have: now,
-        done: false,
-        length: 0,
-        complete: !open,
+    let begun = gathering::begun(kept, stream.have);
+    let used = gathering::gather(kept, begun, piece);
+    let have = begun + used;
+    if gathering::is_open(kept, have) {
+        Taken::Open { used, have }
+    } else {
+        Taken::Complete { used }
     }
 }
 
-fn last(stream: Stream, kept: &[u8], line: &mut [u8]) -> usize
-    requires { length kept.now ≡ most_kept }
-    ensures { Prints line.old (left stream kept.now) result line.new }
+// the input is at its end: 'A cut last record prints its index and `cut`.' The second clause says what the type of kept says.
+pub fn finish(stream: Stream, kept: &[u8; Stream::KEPT], line: &mut [u8]) -> usize
+    ensures prints { Prints line.old (left stream kept.now) result line.new }
+    ensures kept_len { length kept.now ≡ most_kept }
 {
-    if stream.done {
-        return 0;
-    }
-    if gathering::begun(kept, stream.have) == 0 {
+    if stream.done || gathering::begun(kept, stream.have) == 0 {
         return 0;
     }
     if stream.index >= Stream::MOST { // 'one more, even cut, prints its index and `full`'
@@ -121,70 +92,12 @@ fn last(stream: Stream, kept: &[u8], line: &mut [u8]) -> usize
     lines::put_cut(line, stream.index)
 }
 
-// the input is at its end: 'A cut last record prints its index and `cut`.' The second clause says what the type of kept says.
-pub fn finish(stream: Stream, kept: &[u8; Stream::KEPT], line: &mut [u8]) -> usize
-    ensures prints { Prints line.old (left stream kept.now) result line.new }
-    ensures kept_len { length kept.now ≡ most_kept }
-{
-    last(stream, kept, line)
-}
-
 // The stream after a piece, how many bytes of the piece it used, and the length of the line printed for them.
 #[derive(Clone, Copy)]
 pub struct Fed {
     pub stream: Stream,
     pub used: usize,
     pub length: usize,
-}
-
-fn advance(
-    stream: Stream,
-    bytes: &mut [u8],
-    marks: &mut [u8],
-    out: &mut [u8],
-    kept: &mut [u8],
-    piece: &[u8],
-    line: &mut [u8],
-) -> Fed
-    requires { length kept.old ≡ most_kept }
-    ensures { Feeds stream bytes.old marks.old out.old kept.old piece.now line.old result bytes.new marks.new out.new kept.new line.new }
-{
-    let taken = take_in(stream, kept, piece, line);
-    if taken.complete {
-        let kind = gathering::kind_of(kept);
-        let to = gathering::end_of(kept);
-        let recorded = super::record(
-            stream.port,
-            bytes,
-            marks,
-            out,
-            stream.index,
-            kind,
-            &kept[Stream::HEADER..to],
-            line,
-        );
-        let port = recorded.port;
-        let next = stream.index + 1;
-        return Fed {
-            stream: Stream {
-                port: port,
-                index: next,
-                have: 0,
-                done: false,
-            },
-            used: taken.used,
-            length: recorded.length,
-        };
-    }
-    Fed {
-        stream: Stream {
-            have: taken.have,
-            done: taken.done,
-            ..stream
-        },
-        used: taken.used,
-        length: taken.length,
-    }
 }
 
 // the next bytes of the input, up to the end of a record
@@ -199,7 +112,51 @@ pub fn feed(
 ) -> Fed
     ensures { Feeds stream bytes.old marks.old out.old kept.old piece.now line.old result bytes.new marks.new out.new kept.new line.new }
 {
-    advance(stream, bytes, marks, out, kept, piece, line)
+    match take_in(stream, kept, piece, line) {
+        Taken::Nothing => Fed {
+            stream,
+            used: piece.len(),
+            length: 0,
+        },
+        Taken::Full { length } => Fed {
+            stream: Stream {
+                have: 0,
+                done: true,
+                ..stream
+            },
+            used: piece.len(),
+            length,
+        },
+        Taken::Open { used, have } => Fed {
+            stream: Stream { have, ..stream },
+            used,
+            length: 0,
+        },
+        Taken::Complete { used } => {
+            let kind = gathering::kind_of(kept);
+            let body = &kept[Stream::HEADER..gathering::end_of(kept)];
+            let recorded = super::record(
+                stream.port,
+                bytes,
+                marks,
+                out,
+                stream.index,
+                kind,
+                body,
+                line,
+            );
+            Fed {
+                stream: Stream {
+                    port: recorded.port,
+                    index: stream.index + 1,
+                    have: 0,
+                    done: false,
+                },
+                used,
+                length: recorded.length,
+            }
+        }
+    }
 }
 
 // the lines of the whole input from a fresh port, as much of them as dst holds
@@ -211,22 +168,21 @@ pub fn whole(input: &[u8], dst: &mut [u8]) -> usize
     let mut out = [0u8; Port::OUTPUT];
     let mut kept = [0u8; Stream::KEPT];
     let mut stream = Stream::start();
-    let mut at = 0;
+    let mut rest = input;
     let mut written = 0;
-    while at < input.len() {
+    while !rest.is_empty() {
         let fed = feed(
             stream,
             &mut bytes,
             &mut marks,
             &mut out,
             &mut kept,
-            &input[at..],
+            rest,
             &mut dst[written..],
         );
         stream = fed.stream;
-        at += fed.used;
+        rest = &rest[fed.used..];
         written += fed.length;
     }
-    let length = finish(stream, &kept, &mut dst[written..]);
-    written + length
+    written + finish(stream, &kept, &mut dst[written..])
 }

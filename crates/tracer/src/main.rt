@@ -16,7 +16,7 @@ use trace::stream::Stream;
 // A piece of the input is fed, and each line written: the stream after it.
 fn pass<R: Print>(
     rt: &R,
-    stream: Stream,
+    mut stream: Stream,
     bytes: &mut [u8],
     marks: &mut [u8],
     out: &mut [u8],
@@ -26,32 +26,22 @@ fn pass<R: Print>(
     ensures { IfOk result (λ r. Passes stream bytes.old marks.old out.old kept.old piece.now r bytes.new marks.new out.new kept.new) }
 {
     let mut line = [0u8; Stream::LINE];
-    let mut next = stream;
-    let mut at = 0;
-    while at < piece.len() {
-        let fed = stream::feed(next, bytes, marks, out, kept, &piece[at..], &mut line);
-        let n = fed.length;
-        let written = rt.write_all(&line[..n]);
-        next = fed.stream;
-        at += fed.used;
-        written?;
+    let mut rest = piece;
+    while !rest.is_empty() {
+        let fed = stream::feed(stream, bytes, marks, out, kept, rest, &mut line);
+        rt.write_all(&line[..fed.length])?;
+        stream = fed.stream;
+        rest = &rest[fed.used..];
     }
-    Ok(next)
+    Ok(stream)
 }
 
 // as many bytes as are asked for at once
 const BUFFER: usize = 65536;
 
-// What failed and why goes to standard error.
-fn failed<R: Eprint>(rt: &R, what: &str, error: io::Error) -> ExitCode {
-    match eprintln!(rt; "{what}: {error}") {
-        Ok(()) => ExitCode::FAILURE,
-        Err(_) => ExitCode::FAILURE,
-    }
-}
-
-// A proved loop has to end, and nothing says that the input does: the turns are counted down from a number that no run uses up.
-fn main(rt: HostRuntime) -> ExitCode {
+// Pieces of the input are passed until all is done or the input at its end, and the last line is written; or what failed, and why.
+// A proved loop has to end, and nothing says that the input does: the turns are counted up to a number that no run reaches.
+fn run(rt: &HostRuntime) -> Result<(), (&'static str, io::Error)> {
     let mut bytes = [0u8; Port::INPUT];
     let mut marks = [0u8; Port::INPUT];
     let mut out = [0u8; Port::OUTPUT];
@@ -59,33 +49,37 @@ fn main(rt: HostRuntime) -> ExitCode {
     let mut buf = [0u8; BUFFER];
     let mut stream = Stream::start();
     let mut input = rt.stdin();
-    let mut turns = u64::MAX;
-    while turns > 0 && !stream.done {
-        let n = match input.read(&mut buf) {
-            Ok(n) => n,
-            Err(e) => return failed(&rt, "read", e),
-        };
+    for _ in 0..u64::MAX {
+        if stream.done {
+            break;
+        }
+        let n = input.read(&mut buf).map_err(|e| ("read", e))?;
         if n == 0 {
             break;
         }
-        stream = match pass(
-            &rt,
+        stream = pass(
+            rt,
             stream,
             &mut bytes,
             &mut marks,
             &mut out,
             &mut kept,
             &buf[..n],
-        ) {
-            Ok(next) => next,
-            Err(e) => return failed(&rt, "write", e),
-        };
-        turns -= 1;
+        )
+        .map_err(|e| ("write", e))?;
     }
     let mut line = [0u8; Stream::LINE];
     let n = stream::finish(stream, &kept, &mut line);
-    match rt.write_all(&line[..n]) {
+    rt.write_all(&line[..n]).map_err(|e| ("write", e))
+}
+
+// What failed and why goes to standard error.
+fn main(rt: HostRuntime) -> ExitCode {
+    match run(&rt) {
         Ok(()) => ExitCode::SUCCESS,
-        Err(e) => failed(&rt, "write", e),
+        Err((what, error)) => {
+            let _ = eprintln!(rt; "{what}: {error}");
+            ExitCode::FAILURE
+        }
     }
 }

@@ -5,14 +5,13 @@ use native.Mathlib.Omega.{arith}
 use Rattle.queue.proofs.Rings.{lt_or_le}
 use mathlib.Core.Path.{◌≡◌, refl, sym, ap, ap₂, ◌∙◌}
 use mathlib.Core.Bool.{Bool, true, false, cond}
-use mathlib.Core.List.{List, [], ◌∷◌, ◌++◌, append_assoc}
+use mathlib.Core.List.{List, [], ◌∷◌, ◌++◌, append_assoc, append-nil}
 use mathlib.Core.Logic.{⊎_elim}
 use lib.ListN.{length, take, set, replicate, length-append, length-take, length-replicate, length-set}
 use lib.Seq.{take_all, take-add, take_at, drop_at, take-suc-set, set_out, get_or-set_other}
 use Rattle.rules.specs.Sizes.{Sizes, State}
 use Rattle.rules.specs.Trace as trace
 use Rattle.rules.specs.Trace.{two, decode, answered, line, cut_line, trace_from}
-use Rattle.rules.proofs.OutputLaws.{append_nil}
 use Rattle.trace.specs.gathering.Contract.{size_of, kind_of, body_of, is_open, come, pending}
 use Rattle.rules.proofs.Asked.{long_malformed}
 use Rattle.trace.proofs.Rules.{trace_short, trace_cut, trace_record, blind}
@@ -38,7 +37,7 @@ module _ (kept : List ℕ) where
   pub come_short : (have : ℕ) → have ≤ length kept → come kept have ≡ take have kept
   come_short have le =
       let e : have - length kept ≡ 0 = omega arith in
-      ap (λ (k : ℕ). take have kept ++ replicate k 0) e ∙ append_nil (take have kept)
+      ap (λ (k : ℕ). take have kept ++ replicate k 0) e ∙ append-nil (take have kept)
 
   pub pending_long : (have : ℕ) → length (pending kept have) ≡ cond (is_open kept have) have 0
   pending_long have = by (is_open kept have)
@@ -151,7 +150,7 @@ module _ (z : Sizes) (m i : ℕ) (s : State) (x : List ℕ) where
           let none : header + two a b - length (a ∷ b ∷ c ∷ d ∷ k) ≡ 0 = omega arith in
           let least : two a b ≡ min (two a b) most_body = omega arith in
           ap (λ (y : List ℕ). decode (two c d) y)
-          (ap (λ (j : ℕ). take (two a b) k ++ zeros j) none ∙ append_nil (take (two a b) k) ∙ ap (λ (j : ℕ). take j k) least)
+          (ap (λ (j : ℕ). take (two a b) k ++ zeros j) none ∙ append-nil (take (two a b) k) ∙ ap (λ (j : ℕ). take j k) least)
 
   pub whole_record : (kept : List ℕ) → length kept ≡ most_kept → Printed kept
   whole_record kept e = by_four (λ l. length l ≡ most_kept → Printed l) kept (omega arith) at_size e

@@ -2,10 +2,10 @@
 use Prim.Native.Nat.{ℕ, suc, ◌+◌, ◌-◌, min}
 use native.Mathlib.Numerals.{add-one}
 use native.Mathlib.Omega.{arith}
-use mathlib.Core.Path.{◌≡◌, refl, sym, ap, ap₂, subst, ◌∙◌}
-use mathlib.Core.Bool.{true, false}
+use mathlib.Core.Path.{◌≡◌, sym, ap, ap₂, subst, ◌∙◌}
+use mathlib.Core.Bool.{false}
 use mathlib.Core.List.{List, [], ◌++◌}
-use mathlib.Core.Logic.{inl, inr}
+use mathlib.Core.Logic.{inr}
 use lib.ListN.{length, take, drop, get_or, length-append}
 use Rattle.rules.specs.Sizes.{Sizes, State}
 use Rattle.rules.specs.Refusals.{Reply, handed}
@@ -14,9 +14,8 @@ use Rattle.port.specs.State.{sizes, get}
 use Rattle.trace.specs.Contract.{answered_of, Records}
 use Rattle.trace.specs.declared.Recorded.{Recorded}
 use Rattle.trace.specs.gathering.Contract.{size_of, kind_of, end_of, body_of, come}
-use Rattle.trace.specs.stream.Contract.{standing, TakesIn, Feeds}
+use Rattle.trace.specs.stream.Contract.{Completed, Feeds}
 use Rattle.trace.specs.declared.stream.Stream.{Stream}
-use Rattle.trace.specs.declared.stream.Taken.{Taken}
 use Rattle.trace.proofs.stream.Laws.{more}
 use Rattle.trace.proofs.stream.Lengths.{line_at_most}
 use Rattle.trace.proofs.gathering.Keeping.{pending_none, whole_record}
@@ -31,51 +30,36 @@ line_some i k r f =
     no_end : (t : List ℕ) → t ++ text "\n" ≡ [] → ⊥
     no_end t e = omega (arith, ap length e, length-append t (text "\n"))
 
-module _ {stream : Stream} {bs ms os kept piece l : List ℕ} {t : Taken} {kept' l₁ : List ℕ} (h : TakesIn stream kept piece l t kept' l₁) where
-  pub feeds_passed : t.complete ≡ false
-      → Feeds stream bs ms os kept piece l (record { stream = standing stream t; used = t.used; length = t.length }) bs ms os kept' l₁
-  feeds_passed going =
-      let w = h.passed going in
-      record {
-        text = w.text;
-        printed = w.printed;
-        short = w.short;
-        used = h.used;
-        further = h.further;
-        silent = w.silent;
-        along = w.along bs ms os;
-        exact = inl (record { port = refl; bytes = refl; marks = refl; out = refl });
-      }
-
-  pub feeds_record : {kind to : ℕ} {r : Recorded} {bs' ms' os' l' : List ℕ} → t.complete ≡ true → kind ≡ kind_of kept' → to ≡ end_of kept'
+module _ {stream : Stream} {bs ms os kept piece l : List ℕ} {used : ℕ} {kept' l₁ : List ℕ} where
+  pub feeds_record : {kind to : ℕ} {r : Recorded} {bs' ms' os' l' : List ℕ} → Completed stream kept piece l used kept' l₁
+      → kind ≡ kind_of kept' → to ≡ end_of kept'
       → Records stream.port bs ms os stream.index kind (take (to - header) (drop header kept')) l₁ r bs' ms' os' l'
       → Feeds stream bs ms os kept piece l (record {
         stream = record { port = r.port; index = stream.index + 1; have = 0; done = false };
-        used = t.used;
+        used = used;
         length = r.length;
       }) bs' ms' os' kept' l'
-  feeds_record {kind} {to} {r} {bs'} {ms'} {os'} {l'} closed ek et hr₁ =
-      let w = h.completed closed in
+  feeds_record {kind} {to} {r} {bs'} {ms'} {os'} {l'} w ek et hr₁ =
       let v : State × Reply = answered_of stream.port bs ms os (kind_of kept') (body_of kept') in
       let hr = record_as w.line ek (omega (arith, et)) hr₁ in
       record {
         text = line stream.index (kind_of kept') v.1;
         printed = hr.line;
         short = line_at_most (sizes stream.port bs ms os) (get stream.port bs ms os) stream.index (kind_of kept') (body_of kept');
-        used = h.used;
-        further = h.further;
+        used = w.upto;
+        further = w.further;
         silent = λ f. absurd (line_some stream.index (kind_of kept') v.1 f);
         along = λ rest.
             w.along bs ms os rest
             ∙ ap (λ (j : ℕ). trace_from (sizes stream.port bs ms os) j stream.index (get stream.port bs ms os)
-            (come kept' (size_of kept') ++ (drop t.used piece ++ rest))) (more stream bs ms os kept w.below)
+            (come kept' (size_of kept') ++ (drop used piece ++ rest))) (more stream bs ms os kept w.below)
             ∙ whole_record (sizes stream.port bs ms os) (most_records - (stream.index + 1)) stream.index (get stream.port bs ms os)
-            (drop t.used piece ++ rest) kept' w.long
+            (drop used piece ++ rest) kept' w.long
             ∙ ap₂ (λ (y : Sizes) (x : State). line stream.index (kind_of kept') v.1
-            ++ trace_from y (most_records - (stream.index + 1)) (suc stream.index) x (drop t.used piece ++ rest))
+            ++ trace_from y (most_records - (stream.index + 1)) (suc stream.index) x (drop used piece ++ rest))
             (sym hr.now.sizes) (sym hr.now.state)
             ∙ ap₂ (λ (j : ℕ) (y : List ℕ). line stream.index (kind_of kept') v.1
-            ++ trace_from (sizes r.port bs' ms' os') (most_records - (stream.index + 1)) j (get r.port bs' ms' os') (y ++ (drop t.used piece ++ rest)))
+            ++ trace_from (sizes r.port bs' ms' os') (most_records - (stream.index + 1)) j (get r.port bs' ms' os') (y ++ (drop used piece ++ rest)))
             (sym (add-one stream.index)) (sym (pending_none kept'));
         exact = inr hr;
       }

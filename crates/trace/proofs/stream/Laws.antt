@@ -3,16 +3,15 @@ use Prim.Native.Nat.{ℕ, zero, suc, ◌+◌, ◌-◌, ◌≤◌, ◌<◌}
 use native.Mathlib.Omega.{arith}
 use mathlib.Core.Path.{◌≡◌, refl, sym, ap, ap₂, subst, ◌∙◌}
 use mathlib.Core.Bool.{Bool, true, false, ◌||◌, cond}
-use mathlib.Core.List.{List, [], ◌++◌}
+use mathlib.Core.List.{List, [], ◌++◌, append-nil}
 use mathlib.Core.Logic.{⊎_elim}
 use Rattle.queue.proofs.Rings.{lt_or_le}
 use lib.ListN.{length}
 use lib.Dec.{leb, eqb}
 use lib.Seq.{take-nil}
-use borrow.Author.Tests.{ltb-true, le-leb, lt-leb, eq-eqb, ne_eqb, eqb-true, eqb-false}
+use borrow.Author.Tests.{ltb-true, le-leb, lt-leb, ne_eqb, eqb-true, eqb-false}
 use Rattle.rules.specs.Sizes.{Sizes, State}
 use Rattle.rules.specs.Trace.{cut_line, full_line, trace_from}
-use Rattle.rules.proofs.OutputLaws.{append_nil}
 use Rattle.port.specs.State.{sizes, get}
 use Rattle.records.specs.lines.Puts.{Prints}
 use Rattle.trace.specs.gathering.Contract.{size_of, is_open, come, pending}
@@ -20,14 +19,14 @@ use Rattle.trace.specs.stream.Contract.{future, left}
 use Rattle.trace.specs.declared.stream.Stream.{Stream}
 use Rattle.trace.proofs.Rules.{trace_none, trace_full}
 use Rattle.trace.proofs.gathering.Keeping.{pending_long, cut_short}
-use Rattle.trace.specs.Numbers.{most_kept, most_records, most_size}
+use Rattle.trace.specs.Numbers.{most_kept, most_records}
 
 ---- Nothing is printed
 
 pub prints_none : (l : List ℕ) → Prints l [] 0 l
 prints_none l = record { count = omega arith; buffer = sym (ap (λ (y : List ℕ). y ++ l) (take-nil (length l))) }
 
----- last
+---- finish
 
 abbrev pub none_there : Stream → List ℕ → Bool
 none_there stream kept = eqb (length (pending kept stream.have)) 0
@@ -35,35 +34,23 @@ none_there stream kept = eqb (length (pending kept stream.have)) 0
 abbrev text_at_end : Stream → List ℕ
 text_at_end stream = cond (leb most_records stream.index) (full_line stream.index) (cut_line stream.index)
 
-module _ (stream : Stream) (kept l : List ℕ) where
-  pub last_done : stream.done ≡ true → Prints l (left stream kept) 0 l
-  last_done d = subst (λ (y : List ℕ). Prints l y 0 l) (sym (ap (λ (t : Bool). cond (t || none_there stream kept) [] (text_at_end stream)) d)) (prints_none l)
+-- bytes of a record have come
+module _ (stream : Stream) (kept : List ℕ) {n : ℕ}
+    (d : stream.done ≡ false) (en : n ≡ cond (is_open kept stream.have) stream.have 0) (some : n ≡ 0 → ⊥) where
+  some_left : left stream kept ≡ text_at_end stream
+  some_left =
+      ap₂ (λ (s t : Bool). cond (s || t) [] (text_at_end stream)) d
+      (ne_eqb (length (pending kept stream.have)) 0 (λ f. some (en ∙ sym (pending_long kept stream.have) ∙ f)))
 
-  module _ {n : ℕ} (en : (n ≡ cond (is_open kept stream.have) stream.have 0) × (n < most_size)) where
-    pending_as : length (pending kept stream.have) ≡ n
-    pending_as = pending_long kept stream.have ∙ sym en.0
+  pub last_full : {l : List ℕ} {k : ℕ} {l' : List ℕ} → most_records ≤ stream.index → Prints l (full_line stream.index) k l' → Prints l (left stream kept) k l'
+  last_full {l} {k} {l'} le h =
+      subst (λ (y : List ℕ). Prints l y k l')
+      (sym (some_left ∙ ap (λ (t : Bool). cond t (full_line stream.index) (cut_line stream.index)) (le-leb most_records stream.index le))) h
 
-    pub last_none : stream.done ≡ false → n ≡ 0 → Prints l (left stream kept) 0 l
-    last_none d z =
-        subst (λ (y : List ℕ). Prints l y 0 l)
-        (sym (ap₂ (λ (s t : Bool). cond (s || t) [] (text_at_end stream)) d (eq-eqb (length (pending kept stream.have)) 0 (pending_as ∙ z))))
-        (prints_none l)
-
-    some_left : stream.done ≡ false → (n ≡ 0 → ⊥) → left stream kept ≡ text_at_end stream
-    some_left d z =
-        ap₂ (λ (s t : Bool). cond (s || t) [] (text_at_end stream)) d (ne_eqb (length (pending kept stream.have)) 0 (λ f. z (sym pending_as ∙ f)))
-
-    pub last_full : {k : ℕ} {l' : List ℕ} → stream.done ≡ false → (n ≡ 0 → ⊥) → most_records ≤ stream.index → Prints l (full_line stream.index) k l'
-        → Prints l (left stream kept) k l'
-    last_full {k} {l'} d z le h =
-        subst (λ (y : List ℕ). Prints l y k l')
-        (sym (some_left d z ∙ ap (λ (t : Bool). cond t (full_line stream.index) (cut_line stream.index)) (le-leb most_records stream.index le))) h
-
-    pub last_cut : {k : ℕ} {l' : List ℕ} → stream.done ≡ false → (n ≡ 0 → ⊥) → stream.index < most_records → Prints l (cut_line stream.index) k l'
-        → Prints l (left stream kept) k l'
-    last_cut {k} {l'} d z lt h =
-        subst (λ (y : List ℕ). Prints l y k l')
-        (sym (some_left d z ∙ ap (λ (t : Bool). cond t (full_line stream.index) (cut_line stream.index)) (lt-leb most_records stream.index lt))) h
+  pub last_cut : {l : List ℕ} {k : ℕ} {l' : List ℕ} → stream.index < most_records → Prints l (cut_line stream.index) k l' → Prints l (left stream kept) k l'
+  last_cut {l} {k} {l'} lt h =
+      subst (λ (y : List ℕ). Prints l y k l')
+      (sym (some_left ∙ ap (λ (t : Bool). cond t (full_line stream.index) (cut_line stream.index)) (lt-leb most_records stream.index lt))) h
 
 ---- What is printed at the end is what was to be printed
 
@@ -96,7 +83,7 @@ module _ (stream : Stream) (bs ms os kept : List ℕ) where
   at_end_lem e = by_done stream.done refl
     where
       no_rest : waits ++ [] ≡ waits
-      no_rest = append_nil waits
+      no_rest = append-nil waits
 
       n_rest : length (waits ++ []) ≡ length waits
       n_rest = ap length no_rest

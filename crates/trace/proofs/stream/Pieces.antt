@@ -1,11 +1,12 @@
 -- In whatever pieces an input arrives, its lines are those of the whole. Assumes nothing.
-use Prim.Native.Nat.{ℕ, ◌+◌, ◌-◌, ◌≤◌, ◌<◌, min}
+use Prim.Native.Nat.{ℕ, ◌-◌, ◌≤◌, min}
 use native.Mathlib.Omega.{arith}
-use mathlib.Core.Path.{◌≡◌, refl, sym, ap, ap₂, subst, ◌∙◌}
+use mathlib.Core.Path.{◌≡◌, sym, ap, ap₂, ◌∙◌}
 use mathlib.Core.Bool.{Bool, true, false, ◌||◌, cond}
 use mathlib.Core.List.{List, [], ◌++◌, append_assoc}
+use Rattle.std.proofs.lemmas.List.{nil_from_length}
 use lib.ListN.{length, take, drop, length-drop}
-use lib.Seq.{take_all, take_at, drop-drop, drop-length}
+use lib.Seq.{take_all, take_at}
 use lib.Dec.{leb}
 use Rattle.rules.specs.Sizes.{Sizes, State, base}
 use Rattle.rules.specs.Trace.{cut_line, full_line, trace_from, trace}
@@ -59,43 +60,33 @@ writes_the_whole pieces bs ms os kept t eb em eo w = writes_future w ∙ future_
 
 ---- A piece as a whole
 
--- from place at on
-pub record Passing (stream : Stream) (bs ms os kept piece : List ℕ) (at : ℕ) (r : Stream) (bs' ms' os' kept' : List ℕ) : Type 0 where
-  pub upto : at ≤ length piece
+-- some text is written for what is fed of it, and the rest is still to come
+pub record Passing (stream : Stream) (bs ms os kept piece rest : List ℕ) (r : Stream) (bs' ms' os' kept' : List ℕ) : Type 0 where
   pub text : List ℕ
-  pub along : (rest : List ℕ) → future stream bs ms os kept (piece ++ rest) ≡ text ++ future r bs' ms' os' kept' (drop at piece ++ rest)
+  pub along : (after : List ℕ) → future stream bs ms os kept (piece ++ after) ≡ text ++ future r bs' ms' os' kept' (rest ++ after)
 
-pub passing_begins : {stream : Stream} {bs ms os kept piece : List ℕ} → Passing stream bs ms os kept piece 0 stream bs ms os kept
-passing_begins = record { upto = omega arith; text = []; along = λ rest. refl }
+module _ {stream : Stream} {bs ms os kept piece rest : List ℕ} {s : Stream} {bs₁ ms₁ os₁ kept₁ : List ℕ}
+    (h : Passing stream bs ms os kept piece rest s bs₁ ms₁ os₁ kept₁) where
+  -- some of the rest is used
+  pub passing_next : {l : List ℕ} {r : Fed} {bs₂ ms₂ os₂ kept₂ l₂ : List ℕ} → Feeds s bs₁ ms₁ os₁ kept₁ rest l r bs₂ ms₂ os₂ kept₂ l₂
+      → Passing stream bs ms os kept piece (take (length rest - r.used) (drop r.used rest)) r.stream bs₂ ms₂ os₂ kept₂
+  passing_next {l} {r} {bs₂} {ms₂} {os₂} {kept₂} f =
+      let all : take (length rest - r.used) (drop r.used rest) ≡ drop r.used rest =
+      take_all (length rest - r.used) (drop r.used rest) (omega (arith, length-drop r.used rest)) in
+      record {
+        text = h.text ++ f.text;
+        along = λ after.
+            h.along after
+            ∙ ap (λ (y : List ℕ). h.text ++ y) (f.along after)
+            ∙ sym (append_assoc h.text f.text (future r.stream bs₂ ms₂ os₂ kept₂ (drop r.used rest ++ after)))
+            ∙ ap (λ (y : List ℕ). (h.text ++ f.text) ++ future r.stream bs₂ ms₂ os₂ kept₂ (y ++ after)) (sym all);
+      }
 
-module _ {stream : Stream} {bs ms os kept piece : List ℕ} {at : ℕ} {s : Stream} {bs₁ ms₁ os₁ kept₁ : List ℕ}
-    (h : Passing stream bs ms os kept piece at s bs₁ ms₁ os₁ kept₁) where
-  -- the code hands over the piece from a place on; some of it is used
-  pub passing_next : {l : List ℕ} {r : Fed} {bs₂ ms₂ os₂ kept₂ l₂ : List ℕ} → at < length piece
-      → Feeds s bs₁ ms₁ os₁ kept₁ (take (length piece - at) (drop at piece)) l r bs₂ ms₂ os₂ kept₂ l₂
-      → Passing stream bs ms os kept piece (at + r.used) r.stream bs₂ ms₂ os₂ kept₂ × (length piece - (at + r.used) < length piece - at)
-  passing_next {l} {r} {bs₂} {ms₂} {os₂} {kept₂} {l₂} lt fed =
-      let f =
-      subst (λ (y : List ℕ). Feeds s bs₁ ms₁ os₁ kept₁ y l r bs₂ ms₂ os₂ kept₂ l₂)
-      (take_all (length piece - at) (drop at piece) (omega (arith, length-drop at piece))) fed in (
-        record {
-          upto = omega (arith, f.used, length-drop at piece, h.upto);
-          text = h.text ++ f.text;
-          along = λ rest.
-              h.along rest
-              ∙ ap (λ (y : List ℕ). h.text ++ y) (f.along rest)
-              ∙ sym (append_assoc h.text f.text (future r.stream bs₂ ms₂ os₂ kept₂ (drop r.used (drop at piece) ++ rest)))
-              ∙ ap (λ (y : List ℕ). (h.text ++ f.text) ++ future r.stream bs₂ ms₂ os₂ kept₂ (y ++ rest)) (drop-drop r.used at piece);
-        },
-        omega (arith, f.further (omega (arith, length-drop at piece)), f.used, length-drop at piece),
-      )
-
-  pub passing_done : length piece ≤ at → Passes stream bs ms os kept piece s bs₁ ms₁ os₁ kept₁
-  passing_done le =
-      let e : at ≡ length piece = omega (arith, h.upto) in
+  pub passing_done : length rest ≡ 0 → Passes stream bs ms os kept piece s bs₁ ms₁ os₁ kept₁
+  passing_done none =
       record {
         text = h.text;
-        along = λ rest.
-            h.along rest
-            ∙ ap (λ (y : List ℕ). h.text ++ future s bs₁ ms₁ os₁ kept₁ (y ++ rest)) (ap (λ (k : ℕ). drop k piece) e ∙ drop-length piece);
+        along = λ after.
+            h.along after
+            ∙ ap (λ (y : List ℕ). h.text ++ future s bs₁ ms₁ os₁ kept₁ (y ++ after)) (nil_from_length rest none);
       }

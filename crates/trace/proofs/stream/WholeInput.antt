@@ -3,13 +3,13 @@ use Prim.Native.Nat.{ℕ, ◌+◌, ◌-◌, ◌≤◌, ◌<◌, min}
 use native.Mathlib.Omega.{arith}
 use Rattle.queue.proofs.Rings.{lt_or_le}
 use mathlib.Core.Path.{◌≡◌, refl, sym, ap, ap₂, subst, ◌∙◌}
-use mathlib.Core.List.{List, [], ◌++◌, append_assoc}
+use mathlib.Core.List.{List, [], ◌++◌, append_assoc, append-nil}
 use mathlib.Core.Logic.{⊎_elim}
+use Rattle.std.proofs.lemmas.List.{nil_from_length}
 use lib.ListN.{length, take, drop, length-append, length-take, length-drop, drop_of_length-le}
 use lib.Seq.{take_at, drop_at, take_all, take-nil, take-append-le, take-append-add, drop-drop}
 use borrow.Rule.Slice.PartMut.{put_mid}
 use Rattle.rules.specs.Trace.{trace}
-use Rattle.rules.proofs.OutputLaws.{append_nil}
 use Rattle.records.specs.lines.Puts.{Prints}
 use Rattle.trace.specs.declared.stream.Stream.{Stream}
 use Rattle.trace.specs.declared.stream.Fed.{Fed}
@@ -19,9 +19,6 @@ use Rattle.trace.proofs.stream.Pieces.{future_begins}
 use Rattle.trace.specs.Numbers.{most_kept}
 
 ---- A line more in the buffer
-
-none_behind : (k : ℕ) (l : List ℕ) → length l ≤ k → drop k l ≡ []
-none_behind k l le = drop_of_length-le l {i = k} le
 
 -- the buffer d₀ holds as much of the text p as it has places for
 abbrev Holding : List ℕ → List ℕ → List ℕ
@@ -65,13 +62,13 @@ module _ (d₀ p t : List ℕ) where
   -- there is none
   full : N ≤ length p → take w (Holding d₀ p) ++ (take (length (drop w (Holding d₀ p))) t ++ drop (length t) (drop w (Holding d₀ p))) ≡ Holding d₀ (p ++ t)
   full le =
-      let none : drop w (Holding d₀ p) ≡ [] = none_behind w (Holding d₀ p) (omega (arith, long_holding)) in
+      let none : drop w (Holding d₀ p) ≡ [] = drop_of_length-le (Holding d₀ p) (omega (arith, long_holding)) in
       let front : take w (Holding d₀ p) ≡ Holding d₀ p = take_all w (Holding d₀ p) (omega (arith, long_holding)) in
       ap₂ (λ (x y : List ℕ). x ++ (take (length y) t ++ drop (length t) y)) front none
-      ∙ ap (λ (y : List ℕ). Holding d₀ p ++ y) (none_behind (length t) [] (omega arith))
-      ∙ append_nil (Holding d₀ p)
+      ∙ ap (λ (y : List ℕ). Holding d₀ p ++ y) (drop_of_length-le [] {i = length t} (omega arith))
+      ∙ append-nil (Holding d₀ p)
       ∙ ap₂ (λ (x y : List ℕ). x ++ y) (sym (take-append-le N p t le))
-      (none_behind (length p) d₀ le ∙ sym (none_behind (length (p ++ t)) d₀ (omega (arith, length-append p t))))
+      (drop_of_length-le d₀ le ∙ sym (drop_of_length-le d₀ {i = length (p ++ t)} (omega (arith, length-append p t))))
 
   -- the text t is printed behind p
   pub printed_behind : (k : ℕ) (m : List ℕ) → Prints (drop w (Holding d₀ p)) t k m
@@ -92,37 +89,35 @@ module _ (w : ℕ) (dst : List ℕ) (le : w ≤ length dst) where
 
   pub laid_back : (m : List ℕ) → put_mid w (length dst - w) dst m ≡ take w dst ++ m
   laid_back m =
-      ap (λ (y : List ℕ). take w dst ++ y) (ap (λ (y : List ℕ). m ++ y) (none_behind (length dst - w) (drop w dst) (omega (arith, length-drop w dst)))
-      ∙ append_nil m)
+      ap (λ (y : List ℕ). take w dst ++ y) (ap (λ (y : List ℕ). m ++ y) (drop_of_length-le (drop w dst) (omega (arith, length-drop w dst)))
+      ∙ append-nil m)
 
 ---- whole
 
--- while the input is fed: a text is written into the buffer that held d₀, as much of it as it holds; the rest is what is printed from here on
-pub record Running (input d₀ bs ms os kept dst : List ℕ) (s : Stream) (at w : ℕ) : Type 0 where
+-- while the input is fed: a text is written into the buffer that held d₀, as much of it as it holds; then comes what is printed from here on
+pub record Running (input d₀ bs ms os kept dst : List ℕ) (s : Stream) (rest : List ℕ) (w : ℕ) : Type 0 where
   pub text : List ℕ
   pub buffer : dst ≡ Holding d₀ text
   pub written : w ≡ min (length text) (length d₀)
-  pub rest : trace input ≡ text ++ future s bs ms os kept (drop at input)
-  pub upto : at ≤ length input
+  pub ahead : trace input ≡ text ++ future s bs ms os kept rest
   pub bytes : length bs ≡ 1024
   pub marks : length ms ≡ 1024
   pub out : length os ≡ 2048
 
 pub running_begins : {input d₀ bs ms os kept : List ℕ} {s : Stream} → s ≡ beginning → length bs ≡ 1024 → length ms ≡ 1024 → length os ≡ 2048
-    → Running input d₀ bs ms os kept d₀ s 0 0
+    → Running input d₀ bs ms os kept d₀ s input 0
 running_begins {input} {d₀} {bs} {ms} {os} {kept} e eb em eo =
     record {
       text = [];
       buffer = sym (ap (λ (y : List ℕ). y ++ d₀) (take-nil (length d₀)));
       written = omega arith;
-      rest = sym (ap (λ (y : Stream). future y bs ms os kept input) e ∙ future_begins bs ms os kept input eb em eo);
-      upto = omega arith;
+      ahead = sym (ap (λ (y : Stream). future y bs ms os kept input) e ∙ future_begins bs ms os kept input eb em eo);
       bytes = eb;
       marks = em;
       out = eo;
     }
 
-module _ {input d₀ bs ms os kept dst : List ℕ} {s : Stream} {at w : ℕ} (h : Running input d₀ bs ms os kept dst s at w) where
+module _ {input d₀ bs ms os kept dst : List ℕ} {s : Stream} {rest : List ℕ} {w : ℕ} (h : Running input d₀ bs ms os kept dst s rest w) where
   pub running_size : length dst ≡ length d₀
   running_size = ap length h.buffer ∙ long_holding d₀ h.text []
 
@@ -140,46 +135,35 @@ module _ {input d₀ bs ms os kept dst : List ℕ} {s : Stream} {at w : ℕ} (h 
         ap (λ (j : ℕ). j + k) h.written ∙ b.1,
       )
 
-  pub running_next : {r : Fed} {bs' ms' os' kept' m : List ℕ} → at < length input → length bs' ≡ length bs → length ms' ≡ length ms → length os' ≡ length os
-      → Feeds s bs ms os kept (take (length input - at) (drop at input)) (take (length dst - w) (drop w dst)) r bs' ms' os' kept' m
-      → Running input d₀ bs' ms' os' kept' (put_mid w (length dst - w) dst m) r.stream (at + r.used) (w + r.length)
-      × (length input - (at + r.used) < length input - at)
-  running_next {r} {bs'} {ms'} {os'} {kept'} {m} lt eb em eo f =
-      let all : take (length input - at) (drop at input) ≡ drop at input =
-      take_all (length input - at) (drop at input) (omega (arith, length-drop at input)) in
-      let g : Feeds s bs ms os kept (drop at input) (take (length dst - w) (drop w dst)) r bs' ms' os' kept' m =
-      subst (λ (y : List ℕ). Feeds s bs ms os kept y (take (length dst - w) (drop w dst)) r bs' ms' os' kept' m) all f in
-      let b = behind g.text r.length m (from_place w dst running_room g.text r.length m g.printed) in (
-        record {
-          text = h.text ++ g.text;
-          buffer = laid_back w dst running_room m ∙ b.0;
-          written = b.1;
-          rest =
-              h.rest
-              ∙ ap (λ (y : List ℕ). h.text ++ future s bs ms os kept y) (sym (append_nil (drop at input)))
-              ∙ ap (λ (y : List ℕ). h.text ++ y) (g.along [])
-              ∙ sym (append_assoc h.text g.text (future r.stream bs' ms' os' kept' (drop r.used (drop at input) ++ [])))
-              ∙ ap (λ (y : List ℕ). (h.text ++ g.text) ++ future r.stream bs' ms' os' kept' y)
-              (append_nil (drop r.used (drop at input)) ∙ drop-drop r.used at input);
-          upto = omega (arith, g.used, length-drop at input);
-          bytes = eb ∙ h.bytes;
-          marks = em ∙ h.marks;
-          out = eo ∙ h.out;
-        },
-        omega (arith, g.further (omega (arith, length-drop at input)), g.used, length-drop at input),
-      )
+  pub running_next : {r : Fed} {bs' ms' os' kept' m : List ℕ} → length bs' ≡ length bs → length ms' ≡ length ms → length os' ≡ length os
+      → Feeds s bs ms os kept rest (take (length dst - w) (drop w dst)) r bs' ms' os' kept' m
+      → Running input d₀ bs' ms' os' kept' (put_mid w (length dst - w) dst m) r.stream (take (length rest - r.used) (drop r.used rest)) (w + r.length)
+  running_next {r} {bs'} {ms'} {os'} {kept'} {m} eb em eo f =
+      let all : take (length rest - r.used) (drop r.used rest) ≡ drop r.used rest =
+      take_all (length rest - r.used) (drop r.used rest) (omega (arith, length-drop r.used rest)) in
+      let b = behind f.text r.length m (from_place w dst running_room f.text r.length m f.printed) in
+      record {
+        text = h.text ++ f.text;
+        buffer = laid_back w dst running_room m ∙ b.0;
+        written = b.1;
+        ahead =
+            h.ahead
+            ∙ ap (λ (y : List ℕ). h.text ++ future s bs ms os kept y) (sym (append-nil rest))
+            ∙ ap (λ (y : List ℕ). h.text ++ y) (f.along [])
+            ∙ sym (append_assoc h.text f.text (future r.stream bs' ms' os' kept' (drop r.used rest ++ [])))
+            ∙ ap (λ (y : List ℕ). (h.text ++ f.text) ++ future r.stream bs' ms' os' kept' y) (append-nil (drop r.used rest) ∙ sym all);
+        bytes = eb ∙ h.bytes;
+        marks = em ∙ h.marks;
+        out = eo ∙ h.out;
+      }
 
-  pub running_done : {k : ℕ} {m : List ℕ} → length kept ≡ most_kept → length input ≤ at → Prints (take (length dst - w) (drop w dst)) (left s kept) k m
+  pub running_done : {k : ℕ} {m : List ℕ} → length kept ≡ most_kept → length rest ≡ 0 → Prints (take (length dst - w) (drop w dst)) (left s kept) k m
       → Prints d₀ (trace input) (w + k) (put_mid w (length dst - w) dst m)
-  running_done {k} {m} e le p =
+  running_done {k} {m} e none p =
       let b = behind (left s kept) k m (from_place w dst running_room (left s kept) k m p) in
       let all : trace input ≡ h.text ++ left s kept =
-      h.rest ∙ ap (λ (y : List ℕ). h.text ++ y) (ap (λ (y : List ℕ). future s bs ms os kept y) (none_behind at input le) ∙ at_end_lem s bs ms os kept e) in
+      h.ahead ∙ ap (λ (y : List ℕ). h.text ++ y) (ap (λ (y : List ℕ). future s bs ms os kept y) (nil_from_length rest none) ∙ at_end_lem s bs ms os kept e) in
       record {
         count = b.1 ∙ ap (λ (y : List ℕ). min (length y) (length d₀)) (sym all);
         buffer = laid_back w dst running_room m ∙ b.0 ∙ ap (λ (y : List ℕ). Holding d₀ y) (sym all);
       }
-
--- what holds a text is as long as before
-pub printed_long : {l t : List ℕ} {k : ℕ} {m : List ℕ} → Prints l t k m → length m ≡ length l
-printed_long {l} {t} h = ap length h.buffer ∙ long_holding l t []

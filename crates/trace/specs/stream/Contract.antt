@@ -7,6 +7,7 @@ use Rattle.port.specs.State.{sizes, get}
 use Rattle.trace.specs.gathering.Contract.{size_of, come, pending, kind_of, body_of}
 use Rattle.trace.specs.declared.stream.Stream.{Stream}
 use Rattle.trace.specs.declared.stream.Taken.{Taken}
+use Rattle.trace.specs.declared.stream.Taken.TheVariants.{Nothing, Full, Open, Complete}
 use Rattle.port.specs.declared.Port.{Port}
 use Rattle.trace.specs.Contract.{Records}
 use Rattle.trace.specs.declared.stream.Fed.{Fed}
@@ -30,35 +31,36 @@ beginning = record { port = port.fresh; index = 0; have = 0; done = false }
 
 ---- The next bytes of the input
 
--- where the stream stands then, the port as it was
-abbrev pub standing : Stream → Taken → Stream
-standing stream r = record { port = stream.port; index = stream.index; have = r.have; done = r.done }
-
--- No record is complete: a text is printed, none only if the whole piece is used; whatever comes after, it and what is printed from then
--- on are what was to be printed.
-pub record Passed (stream : Stream) (kept piece l : List ℕ) (r : Taken) (kept' l' : List ℕ) : Type 0 where
+-- No record is complete: of the piece so many bytes are used, at least one if there is one; a text is printed, none only if the whole piece
+-- is used; whatever comes after, it and what is printed from then on are what was to be printed.
+pub record Passed (stream : Stream) (kept piece l : List ℕ) (used n : ℕ) (next : Stream) (kept' l' : List ℕ) : Type 0 where
+  pub upto : used ≤ length piece
+  pub further : 0 < length piece → 0 < used
   pub text : List ℕ
-  pub printed : Prints l text r.length l'
+  pub printed : Prints l text n l'
   pub short : length text ≤ most_line
-  pub silent : text ≡ [] → r.used ≡ length piece
+  pub silent : text ≡ [] → used ≡ length piece
   pub along : (bs ms os rest : List ℕ)
-      → future stream bs ms os kept (piece ++ rest) ≡ text ++ future (standing stream r) bs ms os kept' (drop r.used piece ++ rest)
+      → future stream bs ms os kept (piece ++ rest) ≡ text ++ future next bs ms os kept' (drop used piece ++ rest)
 
--- A record is complete and kept: whatever comes after, it stands before that in what is still to be printed.
-pub record Completed (stream : Stream) (kept piece l : List ℕ) (r : Taken) (kept' l' : List ℕ) : Type 0 where
+-- A record is complete and kept, with so many bytes of the piece, at least one if there is one: whatever comes after, it stands before that
+-- in what is still to be printed.
+pub record Completed (stream : Stream) (kept piece l : List ℕ) (used : ℕ) (kept' l' : List ℕ) : Type 0 where
+  pub upto : used ≤ length piece
+  pub further : 0 < length piece → 0 < used
   pub below : stream.index < most_records
   pub long : length kept' ≡ most_kept
   pub line : l' ≡ l
   pub along : (bs ms os rest : List ℕ) → future stream bs ms os kept (piece ++ rest)
       ≡ trace_from (sizes stream.port bs ms os) (most_records - stream.index) stream.index (get stream.port bs ms os)
-      (come kept' (size_of kept') ++ (drop r.used piece ++ rest))
+      (come kept' (size_of kept') ++ (drop used piece ++ rest))
 
--- Of the piece so many bytes are used, at least one if there is one.
-pub record TakesIn (stream : Stream) (kept piece l : List ℕ) (r : Taken) (kept' l' : List ℕ) : Type 0 where
-  pub used : r.used ≤ length piece
-  pub further : 0 < length piece → 0 < r.used
-  pub passed : r.complete ≡ false → Passed stream kept piece l r kept' l'
-  pub completed : r.complete ≡ true → Completed stream kept piece l r kept' l'
+-- by what the bytes come to; the port stays as it was
+abbrev pub TakesIn : Stream → List ℕ → List ℕ → List ℕ → Taken → List ℕ → List ℕ → Type 0
+TakesIn stream kept piece l Nothing kept' l' = Passed stream kept piece l (length piece) 0 stream kept' l'
+TakesIn stream kept piece l (Full n) kept' l' = Passed stream kept piece l (length piece) n (record stream { have = 0; done = true }) kept' l'
+TakesIn stream kept piece l (Open used have) kept' l' = Passed stream kept piece l used 0 (record stream { have = have }) kept' l'
+TakesIn stream kept piece l (Complete used) kept' l' = Completed stream kept piece l used kept' l'
 
 ---- What a piece of the input does: bytes are used, a text is printed for them, and the rest is still to come
 

@@ -1,15 +1,15 @@
--- So far the piece is fed up to `at`, and the buffers are as long as they were.
-use Rattle.std.proofs.Common.{length, ◌-◌, ◌≡◌}
+-- So far the piece is fed but for `rest`, and the line's buffer is as long as it was.
+use Rattle.std.proofs.Common.{length, ◌≡◌}
 use Rattle.trace.specs.Numbers.{most_line}
 use Rattle.trace.proofs.stream.Pieces.{Passing}
 use Rattle.tracer.proofs.pass.Given as goal
 
-abbrev pub invariant-loop-at : goal.invariant-loop-at
-invariant-loop-at g l =
+abbrev pub invariant-loop-rest : goal.invariant-loop-rest
+invariant-loop-rest g l =
     record {
-      fed : Passing l.initial.next l.initial.bytes l.initial.marks l.initial.out l.initial.kept l.piece l.at l.next l.bytes l.marks l.out l.kept;
+      fed : Passing l.initial.stream l.initial.bytes l.initial.marks l.initial.out l.initial.kept l.piece l.rest l.stream l.bytes l.marks l.out l.kept;
       room : length l.line ≡ most_line;
     }
 
-abbrev pub decreases-loop-at : goal.decreases-loop-at
-decreases-loop-at g l = length l.piece - l.at
+abbrev pub decreases-loop-rest : goal.decreases-loop-rest
+decreases-loop-rest g l = length l.rest

@@ -1,10 +1,5 @@
 use Rattle.trace.proofs.gathering.Laws.{Gathering}
-use lib.ListN.{length}
-use Prim.Native.Nat.{◌-◌}
 use Rattle.trace.proofs.gathering.gather.Given as goal
 
 abbrev pub invariant-loop-at : goal.invariant-loop-at
 invariant-loop-at l = Gathering l.initial.kept l.have l.piece l.at l.kept
-
-abbrev pub decreases-loop-at : goal.decreases-loop-at
-decreases-loop-at l = length l.piece - l.at
