@@ -32,17 +32,8 @@ use Rattle.output.proofs.Run.{got_column}
 
 ---- One place
 
-module _ (x : Settings) (i : Input) (bs ms : List ℕ) (k : ℕ) (t : Bool) (et : t ≡ shows_at i ms k) where
-  pub place_seen : (b : ℕ) → t ≡ true → b ≡ get_or (held i.queue bs) k 0 → visible x b ≡ place_echo x i bs ms k
-  place_seen b seen eb =
-      ap (visible x) eb
-      ∙ ap (λ (y : Bool). cond y (visible x (get_or (held i.queue bs) k 0)) []) (sym seen ∙ et)
-
-  pub place_unseen : t ≡ false → [] ≡ place_echo x i bs ms k
-  place_unseen unseen = ap (λ (y : Bool). cond y (visible x (get_or (held i.queue bs) k 0)) []) (sym unseen ∙ et)
-
-pub extends_none : (x : Settings) (m : Measure) → ExtendsBy x m [] m
-extends_none x m = λ room c bs h. subst (λ (l : List ℕ). Measures x room c l m) (sym (append_nil bs)) h
+pub place_unseen : (x : Settings) (i : Input) (bs ms : List ℕ) (k : ℕ) (t : Bool) → t ≡ shows_at i ms k → t ≡ false → [] ≡ place_echo x i bs ms k
+place_unseen x i bs ms k t et unseen = ap (λ (y : Bool). cond y (visible x (get_or (held i.queue bs) k 0)) []) (sym unseen ∙ et)
 
 ---- A run, and an echo behind it that fits
 
@@ -130,9 +121,6 @@ pub record Measuring (x : Settings) (i : Input) (bs ms : List ℕ) (m₀ : Measu
   pub so : (b room c : ℕ) → Measures x room c (reprinted x i bs ms b i.ready) m₀ → Measures x room c (reprinted x i bs ms b k) m
 
 module _ (x : Settings) (i : Input) (bs ms : List ℕ) (e : length bs ≡ length ms) (h : Within i (length ms)) (m₀ : Measure) where
-  pub measuring_none : Measuring x i bs ms m₀ i.ready m₀
-  measuring_none = record { low = omega arith; high = h.ready; so = λ b room c w. w }
-
   pub measuring_next : (k : ℕ) (m r : Measure) → Measuring x i bs ms m₀ k m → k < i.queue.len → ExtendsBy x m (place_echo x i bs ms k) r
       → Measuring x i bs ms m₀ (k + 1) r
   measuring_next k m r a lt s =
@@ -171,9 +159,6 @@ pub record Showing (x : Settings) (i : Input) (bs ms : List ℕ) (p₀ : Output)
       → Runs x o l (reprinted x i bs ms b i.ready) p₀ l₀ → Runs x o l (reprinted x i bs ms b k) p m
 
 module _ (x : Settings) (i : Input) (bs ms : List ℕ) (e : length bs ≡ length ms) (h : Within i (length ms)) (p₀ : Output) (l₀ : List ℕ) where
-  pub showing_none : Showing x i bs ms p₀ l₀ i.ready p₀ l₀
-  showing_none = record { low = omega arith; high = h.ready; so = λ o l b le w. w }
-
   pub showing_next : (k : ℕ) (p r : Output) (m n : List ℕ) → Showing x i bs ms p₀ l₀ k p m → k < i.queue.len → Echoes x p m (place_echo x i bs ms k) r n
       → Showing x i bs ms p₀ l₀ (k + 1) r n
   showing_next k p r m n a lt s =
@@ -196,9 +181,6 @@ module _ (x : Settings) (i : Input) (bs ms : List ℕ) (e : length bs ≡ length
         a.so o l b le
         (runs_first x o p₀ l l₀ (reprinted x i bs ms b i.ready) (part x i bs ms e h b o l i.ready (omega arith) h.ready le)
         (shows_as x o p₀ l l₀ (visible x b ++ (10 ∷ [])) (reprinted x i bs ms b i.ready) (reprinted_first x i bs ms e h b) f))
-
-    pub shown_size : length m ≡ length l
-    shown_size = same_size o p l m (queued x (get o l) (processed x o.column (reprinted x i bs ms b k))) shown_run
 
     pub shown_all : i.queue.len ≤ k → Echoes x o l (reprinted x i bs ms b i.queue.len) p m
     shown_all end =

@@ -1,11 +1,6 @@
 -- `editing::reprinting::fits` meets its contract. Assumes nothing.
-use Rattle.editing.proofs.reprinting.Laws.{measuring_none, measuring_next, measured_all}
+use Rattle.editing.proofs.reprinting.Laws.{measuring_next, measured_all}
 use Rattle.editing.proofs.reprinting.fits.Goals as goal
-
-pub loop-k-init : goal.loop-k-init
-loop-k-init c =
-    let a = c.args in
-    measuring_none a.x a.line.now.input a.line.now.bytes.now a.line.now.marks.now a.line.now.same_length a.line.now.within c.and-measure.result
 
 pub loop-k-preserved : goal.loop-k-preserved
 loop-k-preserved c =
