@@ -5,16 +5,16 @@ use mathlib.Core.List.{List, [], ◌++◌}
 use Prim.Native.Nat.{ℕ, ◌+◌}
 use lib.ListN.{length}
 use lib.Dec.{leb}
+use Rattle.std.specs.Prelude.{Option}
 use Rattle.rules.specs.declared.Settings.{Settings}
 use Rattle.rules.specs.Sizes.{Output as Ruled}
 use Rattle.rules.specs.Output.{queued, queued_whole}
 use Rattle.rules.proofs.OutputLaws.{queued_none}
 use Rattle.output.specs.Contract.{in_range, get, OutputBecomes, echoed, Echoes}
-use Rattle.output.specs.columns.Contract.{Measures}
+use Rattle.output.specs.columns.Contract.{Measures, ExtendsBy}
 use Rattle.output.specs.declared.columns.Measure.{Measure}
 use Rattle.output.specs.declared.Output.{Output}
 use Rattle.output.proofs.Laws.{becomes, stays}
-use Rattle.echo.specs.Contract.{ExtendsBy}
 
 whole_none : (N : ℕ) (x : Settings) (w : Ruled) → queued_whole N x w [] ≡ w
 whole_none N x w = by (leb (length w.queue + 0) N)
@@ -33,5 +33,5 @@ shows_none x o p l e =
 pub shows_as : (x : Settings) (o r : Output) (l l' a b : List ℕ) → a ≡ b → Echoes x o l a r l' → Echoes x o l b r l'
 shows_as x o r l l' a b e s = becomes o r l l' (echoed x o l a) (echoed x o l b) (ap (echoed x o l) e) s
 
-pub extends_as : (x : Settings) (m r : Measure) (a b : List ℕ) → a ≡ b → ExtendsBy x m a r → ExtendsBy x m b r
+pub extends_as : (x : Settings) (m : Measure) (r : Option Measure) (a b : List ℕ) → a ≡ b → ExtendsBy x m a r → ExtendsBy x m b r
 extends_as x m r a b e s = λ room c bs h. subst (λ (l : List ℕ). Measures x room c (bs ++ l) r) e (s room c bs h)

@@ -1,8 +1,6 @@
 -- What the functions of this crate promise: the output with these bytes echoed, whole or not at all.
 use Rattle.std.specs.Prelude.{ℕ, Bool, cond, List, [], ◌∷◌, ◌++◌}
 use Rattle.rules.specs.declared.Settings.{Settings}
-use Rattle.output.specs.columns.Contract.{Measures}
-use Rattle.output.specs.declared.columns.Measure.{Measure}
 use Rattle.echo.specs.declared.Seen.{Seen}
 use Rattle.echo.specs.declared.Seen.TheVariants.{Itself, Caret}
 use Rattle.rules.specs.Echo.{visible, rubout}
@@ -11,10 +9,6 @@ use Rattle.rules.specs.Echo.{visible, rubout}
 abbrev pub seen_bytes : Seen → List ℕ
 seen_bytes (Itself b) = b ∷ []
 seen_bytes (Caret b) = 94 ∷ b ∷ []
-
--- the bytes e behind a run that is measured
-abbrev pub ExtendsBy : Settings → Measure → List ℕ → Measure → Type 0
-ExtendsBy x m e r = (room c : ℕ) (bs : List ℕ) → Measures x room c bs m → Measures x room c (bs ++ e) r
 
 ---- What an edit shows
 

@@ -3,8 +3,9 @@
 #![tactic(auto)]
 
 ghost use Rattle.std.specs.Prelude.{◌≡◌, [], ◌∷◌, ◌++◌, ◌&&◌, cond, eqb};
-ghost use Rattle.echo.specs.Contract.{seen_bytes, ExtendsBy, removed_echo, erased_echo, killed_echo};
+ghost use Rattle.echo.specs.Contract.{seen_bytes, removed_echo, erased_echo, killed_echo};
 ghost use Rattle.output.specs.Contract.{Echoes};
+ghost use Rattle.output.specs.columns.Contract.{ExtendsBy};
 ghost use Rattle.rules.specs.Echo as echo;
 
 use output::Output;
@@ -51,20 +52,20 @@ fn show_with(o: Output, x: Settings, out: &mut [u8], b: u8, line: bool) -> Outpu
     ensures { Echoes x o out.old (echo.visible x b ++ cond line (10 ∷ []) []) result out.new }
 {
     match visible(x, b) {
-        Seen::Itself(seen) if line => output::show(o, x, out, &[seen, 10]),
-        Seen::Itself(seen) => output::show(o, x, out, &[seen]),
-        Seen::Caret(seen) if line => output::show(o, x, out, &[CARET, seen, 10]),
-        Seen::Caret(seen) => output::show(o, x, out, &[CARET, seen]),
+        Seen::Itself(seen) if line => o.show(x, out, &[seen, 10]),
+        Seen::Itself(seen) => o.show(x, out, &[seen]),
+        Seen::Caret(seen) if line => o.show(x, out, &[CARET, seen, 10]),
+        Seen::Caret(seen) => o.show(x, out, &[CARET, seen]),
     }
 }
 
-// the byte as it is visible, behind what is measured
-pub fn measured(measure: Measure, x: Settings, b: u8) -> Measure
+// the byte as it is visible, behind what is measured, if it fits
+pub fn measured(measure: Measure, x: Settings, b: u8) -> Option<Measure>
     ensures { ExtendsBy x measure (echo.visible x b) result }
 {
     match visible(x, b) {
         Seen::Itself(seen) => measure.and(x, seen),
-        Seen::Caret(seen) => measure.and(x, CARET).and(x, seen),
+        Seen::Caret(seen) => measure.and_all(x, &[CARET, seen]),
     }
 }
 
@@ -86,7 +87,7 @@ pub fn of_stored(o: Output, x: Settings, out: &mut [u8], b: u8) -> Output
     if x.echo {
         show(o, x, out, b)
     } else if shows_newline(x, b) {
-        output::show(o, x, out, &[10])
+        o.show(x, out, &[10])
     } else {
         o.fit(out.len())
     }
@@ -127,7 +128,7 @@ fn of_removed(
     if !x.echo {
         o.fit(out.len())
     } else if rubs {
-        output::rub_out(o, x, out, n)
+        o.rub_out(x, out, n)
     } else {
         show_with(o, x, out, b, line)
     }
