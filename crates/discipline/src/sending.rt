@@ -25,12 +25,12 @@ pub fn write(p: Port, out: &mut [u8], src: &[u8]) -> Answered
     }
     let x = p.settings;
     let o = p.output;
-    let wrote = output::write(o, x, out, src);
+    let wrote = o.write(x, out, src);
     let count = wrote.count;
     if nothing_taken(src.len(), count) {
         return port::says(p, Outcome::Refused(Refusal::Nothing), 0);
     }
-    let output = wrote.output;
+    let output = wrote.rest;
     let after = p.with_output(output);
     port::says(after, Outcome::Ok, count)
 }
@@ -41,7 +41,7 @@ pub fn transmit(p: Port, out: &[u8], dst: &mut [u8]) -> Answered
 {
     let o = p.output;
     let sent = o.transmit(out, dst);
-    let output = sent.output;
+    let output = sent.rest;
     let after = p.with_output(output);
     port::says(after, Outcome::Ok, sent.count)
 }

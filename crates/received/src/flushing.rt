@@ -38,7 +38,7 @@ pub(crate) fn overflow(p: Port, n: usize, out: &mut [u8]) -> Port
     let x = p.settings;
     if x.imaxbel {
         let o = p.output;
-        let output = output::bell(o, x, out);
+        let output = o.bell(x, out);
         return p.with_output(output);
     }
     flush_input(p, n, out)
