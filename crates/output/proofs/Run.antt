@@ -139,8 +139,8 @@ taken_all N x n c (b ∷ bs) le =
     let k : length (e ++ r) ≡ length e + length r = length-append e r in
     rw (le-leb (n + length e) N (omega arith)) (ap suc (taken_all N x (n + length e) (columns_after x c e) bs (omega arith)))
 
-pub shown_of : (x : Settings) (o : Output) (l bs : List ℕ) (r : Counted Output) (m : List ℕ)
-    → length (get o l).queue + length (processed x o.column bs) ≤ length l → Writes x o l bs r m → OutputBecomes o l (queued_whole (length l) x (get o l) (processed x o.column bs)) r.rest m
+shown_of : (x : Settings) (o : Output) (l bs : List ℕ) (r : Counted Output) (m : List ℕ)
+    → length (get o l).queue + length (processed x o.column bs) ≤ length l → Writes x o l bs r m → Echoes x o l bs r.rest m
 unfolding get
 shown_of x o l bs r m le w =
     let t : takes x o l bs ≡ length bs = taken_all (length l) x (length (get o l).queue) o.column bs le in
