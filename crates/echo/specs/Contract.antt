@@ -12,7 +12,7 @@ seen_bytes (Caret b) = 94 ∷ b ∷ []
 
 ---- What an edit shows
 
--- what an edit shows by the character b with ECHO set, n units gone: it rubs each out, or shows b, with a line behind it or not
+-- what an edit shows by the character b, n units gone: each is rubbed out, or b shows, with 10 behind it or not
 abbrev pub removed_echo : Settings → ℕ → ℕ → Bool → Bool → List ℕ
 removed_echo x b n rubs line = cond x.echo (cond rubs (rubout n) (visible x b ++ cond line (10 ∷ []) [])) []
 
