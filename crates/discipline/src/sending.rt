@@ -4,6 +4,7 @@ ghost use Rattle.discipline.specs.sending.Contract.{MovesThrough};
 ghost use Rattle.port.specs.Sending as promise;
 
 use port::{Answered, Port};
+use queue::Counted;
 use rules::{Outcome, Refusal};
 
 // 'a write of one byte or more of which none could be taken'
@@ -20,24 +21,19 @@ pub fn write(p: Port, out: &mut [u8], src: &[u8]) -> Answered
     if p.hung {
         return port::refuses(p, Refusal::HungUp);
     }
-    let wrote = output::write(p.output, p.settings, out, src);
-    let count = wrote.count;
+    let Counted { rest, count } = p.output.write(p.settings, out, src);
     if nothing_taken(src.len(), count) {
         return port::refuses(p, Refusal::Nothing);
     }
-    let output = wrote.output;
-    let after = p.with_output(output);
-    port::says(after, Outcome::Ok, count)
+    port::says(p.with_output(rest), Outcome::Ok, count)
 }
 
 // 'Transmit hands out the oldest queued bytes, none while stopped.'
 pub fn transmit(p: Port, out: &[u8], dst: &mut [u8]) -> Answered
     ensures { promise.result result out.now dst.new ≡ promise.after_transmit p out.now dst.old }
 {
-    let sent = p.output.transmit(out, dst);
-    let output = sent.output;
-    let after = p.with_output(output);
-    port::says(after, Outcome::Ok, sent.count)
+    let Counted { rest, count } = p.output.transmit(out, dst);
+    port::says(p.with_output(rest), Outcome::Ok, count)
 }
 
 // How many bytes of a buffer were written, and how many were handed out meanwhile.

@@ -2,9 +2,10 @@
 
 #![tactic(auto)]
 
-ghost use Rattle.std.specs.Prelude.{◌≡◌, [], ◌∷◌, ◌++◌, ◌&&◌, eqb};
-ghost use Rattle.echo.specs.Contract.{seen_bytes, ExtendsBy, erased_echo, killed_echo};
+ghost use Rattle.std.specs.Prelude.{◌≡◌, [], ◌∷◌, ◌++◌, ◌&&◌, cond, eqb};
+ghost use Rattle.echo.specs.Contract.{seen_bytes, removed_echo, erased_echo, killed_echo};
 ghost use Rattle.output.specs.Contract.{Echoes};
+ghost use Rattle.output.specs.columns.Contract.{ExtendsBy};
 ghost use Rattle.rules.specs.Echo as echo;
 
 use output::Output;
@@ -13,50 +14,22 @@ use rules::Settings;
 
 const CARET: u8 = 94;
 
-// What a byte shows: as itself, or as a caret pair.
+// What a byte shows: itself, or the caret pair of 94 and this byte.
 #[derive(Clone, Copy)]
-pub struct Seen {
-    pub pair: bool,
-    pub byte: u8,
+pub enum Seen {
+    Itself(u8),
+    Caret(u8),
 }
 
 // 'a byte shows as itself; under ECHOCTL controls but 10 show as 94 and the byte plus 64 (63 for 127)'
 pub fn visible(x: Settings, b: u8) -> Seen
     ensures { seen_bytes result ≡ echo.visible x b }
 {
-    if x.echoctl {
-        if b == 127 {
-            return Seen {
-                pair: true,
-                byte: 63,
-            };
-        }
-        if b == 9 {
-            return Seen {
-                pair: false,
-                byte: 9,
-            };
-        }
-        if b == 10 {
-            return Seen {
-                pair: false,
-                byte: 10,
-            };
-        }
-        if b < 32 {
-            return Seen {
-                pair: true,
-                byte: b + 64,
-            };
-        }
-        return Seen {
-            pair: false,
-            byte: b,
-        };
-    }
-    Seen {
-        pair: false,
-        byte: b,
+    match b {
+        127 if x.echoctl => Seen::Caret(63),
+        9 | 10 => Seen::Itself(b),
+        0..=31 if x.echoctl => Seen::Caret(b + 64),
+        _ => Seen::Itself(b),
     }
 }
 
@@ -64,41 +37,36 @@ pub fn visible(x: Settings, b: u8) -> Seen
 pub fn show(o: Output, x: Settings, out: &mut [u8], b: u8) -> Output
     ensures { Echoes x o out.old (echo.visible x b) result out.new }
 {
-    let seen = visible(x, b);
-    let last = seen.byte;
-    if seen.pair {
-        let bytes = [CARET, last];
-        return output::show(o, x, out, &bytes);
-    }
-    let bytes = [last];
-    output::show(o, x, out, &bytes)
+    show_with(o, x, out, b, false)
 }
 
 // and 10 behind it
 pub fn show_line(o: Output, x: Settings, out: &mut [u8], b: u8) -> Output
     ensures { Echoes x o out.old (echo.visible x b ++ (10 ∷ [])) result out.new }
 {
-    let seen = visible(x, b);
-    let last = seen.byte;
-    if seen.pair {
-        let bytes = [CARET, last, 10];
-        return output::show(o, x, out, &bytes);
-    }
-    let bytes = [last, 10];
-    output::show(o, x, out, &bytes)
+    show_with(o, x, out, b, true)
 }
 
-// the byte as it is visible, behind what is measured
-pub fn measured(measure: Measure, x: Settings, b: u8) -> Measure
+// the byte as it is visible, and 10 behind it if so asked
+fn show_with(o: Output, x: Settings, out: &mut [u8], b: u8, line: bool) -> Output
+    ensures { Echoes x o out.old (echo.visible x b ++ cond line (10 ∷ []) []) result out.new }
+{
+    match visible(x, b) {
+        Seen::Itself(seen) if line => o.show(x, out, &[seen, 10]),
+        Seen::Itself(seen) => o.show(x, out, &[seen]),
+        Seen::Caret(seen) if line => o.show(x, out, &[CARET, seen, 10]),
+        Seen::Caret(seen) => o.show(x, out, &[CARET, seen]),
+    }
+}
+
+// the byte as it is visible, behind what is measured, if it fits
+pub fn measured(measure: Measure, x: Settings, b: u8) -> Option<Measure>
     ensures { ExtendsBy x measure (echo.visible x b) result }
 {
-    let seen = visible(x, b);
-    let last = seen.byte;
-    if seen.pair {
-        let first = measure.and(x, CARET);
-        return first.and(x, last);
+    match visible(x, b) {
+        Seen::Itself(seen) => measure.and(x, seen),
+        Seen::Caret(seen) => measure.and_all(x, &[CARET, seen]),
     }
-    measure.and(x, last)
 }
 
 // 'ECHO clear: nothing is shown'
@@ -106,9 +74,10 @@ pub fn of_byte(o: Output, x: Settings, out: &mut [u8], b: u8) -> Output
     ensures { Echoes x o out.old (echo.echo_of x b) result out.new }
 {
     if x.echo {
-        return show(o, x, out, b);
+        show(o, x, out, b)
+    } else {
+        o.fit(out.len())
     }
-    o.fit(out.len())
 }
 
 // 'except 10 when it is stored by step 9 under ECHONL and ICANON'
@@ -116,52 +85,51 @@ pub fn of_stored(o: Output, x: Settings, out: &mut [u8], b: u8) -> Output
     ensures { Echoes x o out.old (echo.stored_echo x b) result out.new }
 {
     if x.echo {
-        return show(o, x, out, b);
+        show(o, x, out, b)
+    } else if shows_newline(x, b) {
+        o.show(x, out, &[10])
+    } else {
+        o.fit(out.len())
     }
-    if shows_newline(x, b) {
-        let bytes = [10u8];
-        return output::show(o, x, out, &bytes);
-    }
-    o.fit(out.len())
 }
 
 fn shows_newline(x: Settings, b: u8) -> bool
     ensures { result ≡ (eqb b 10 && x.echonl && x.icanon) }
 {
-    if b == 10 {
-        if x.echonl {
-            return x.icanon;
-        }
-        return false;
-    }
-    false
+    b == 10 && x.echonl && x.icanon
 }
 
 // 'ERASE and WERASE under ECHOE show 8,32,8 for each unit removed, else their own echo.'
 pub fn of_erased(o: Output, x: Settings, out: &mut [u8], b: u8, n: usize) -> Output
     ensures { Echoes x o out.old (erased_echo x b n) result out.new }
 {
-    if x.echo {
-        if x.echoe {
-            return output::rub_out(o, x, out, n);
-        }
-        return show(o, x, out, b);
-    }
-    o.fit(out.len())
+    of_removed(o, x, out, b, n, x.echoe, false)
 }
 
 // 'KILL: ECHOKE 8,32,8 for each unit; else its echo, and 10 if ECHOK.'
 pub fn of_killed(o: Output, x: Settings, out: &mut [u8], b: u8, n: usize) -> Output
     ensures { Echoes x o out.old (killed_echo x b n) result out.new }
 {
-    if x.echo {
-        if x.echoke {
-            return output::rub_out(o, x, out, n);
-        }
-        if x.echok {
-            return show_line(o, x, out, b);
-        }
-        return show(o, x, out, b);
+    of_removed(o, x, out, b, n, x.echoke, x.echok)
+}
+
+// n units are gone: each is rubbed out, or b shows, with 10 behind it or not
+fn of_removed(
+    o: Output,
+    x: Settings,
+    out: &mut [u8],
+    b: u8,
+    n: usize,
+    rubs: bool,
+    line: bool,
+) -> Output
+    ensures { Echoes x o out.old (removed_echo x b n rubs line) result out.new }
+{
+    if !x.echo {
+        o.fit(out.len())
+    } else if rubs {
+        o.rub_out(x, out, n)
+    } else {
+        show_with(o, x, out, b, line)
     }
-    o.fit(out.len())
 }

@@ -3,9 +3,9 @@ ghost use Rattle.std.specs.Prelude.{◌≡◌, ◌≤◌, length, leb};
 ghost use Rattle.rules.specs.Editing.{units, reprint};
 ghost use Rattle.rules.specs.Echo.{edit_echo};
 ghost use Rattle.input.specs.Contract.{get, Within};
-ghost use Rattle.echo.specs.Contract.{ExtendsBy};
 ghost use Rattle.output.specs.Contract.{Echoes};
-ghost use Rattle.editing.specs.reprinting.Contract.{place_echo, reprinted, needed};
+ghost use Rattle.output.specs.columns.Contract.{ExtendsBy};
+ghost use Rattle.editing.specs.reprinting.Contract.{place_echo, reprinted, needed, MeasuresLine};
 
 use super::line::Line;
 use input::Input;
@@ -13,26 +13,33 @@ use output::Output;
 use output::columns::Measure;
 use rules::Settings;
 
-// what place k shows, behind what is measured
-fn measured(measure: Measure, x: Settings, line: &Line, k: usize) -> Measure
+// what place k shows, behind what is measured, if it fits
+fn measured(measure: Measure, x: Settings, line: &Line, k: usize) -> Option<Measure>
     ensures { ExtendsBy x measure (place_echo x line.now.input line.now.bytes.now line.now.marks.now k) result }
 {
     if super::is_shown(line.input, line.marks, k) {
         echo::measured(measure, x, line.input.queue.at(line.bytes, k))
     } else {
-        measure
+        Some(measure)
     }
+}
+
+// the echo of b, 10 and what the line shows, measured in so many bytes, if they fit
+fn line_measured(o: Output, x: Settings, line: &Line, size: usize, b: u8) -> Option<Measure>
+    ensures { MeasuresLine x o line.now.input line.now.bytes.now line.now.marks.now size b result }
+{
+    let mut measure = echo::measured(o.measure(size), x, b)?.and(x, 10)?;
+    for k in line.input.ready..line.input.queue.len {
+        measure = measured(measure, x, line, k)?;
+    }
+    Some(measure)
 }
 
 // whether the echo of b, 10 and what the line shows fit in so many bytes
 fn fits(o: Output, x: Settings, line: &Line, size: usize, b: u8) -> bool
     ensures { result ≡ leb (needed x o line.now.input line.now.bytes.now line.now.marks.now size b) size }
 {
-    let mut measure = echo::measured(o.measure(size), x, b).and(x, 10);
-    for k in line.input.ready..line.input.queue.len {
-        measure = measured(measure, x, line, k);
-    }
-    measure.fits
+    line_measured(o, x, line, size, b).is_some()
 }
 
 // what place k shows, behind what is queued

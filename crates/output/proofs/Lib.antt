@@ -1,4 +1,3 @@
 pub mod Laws
-pub mod Measured
 pub mod Sending
 pub mod Run

@@ -7,35 +7,35 @@ use native.Mathlib.Nat.{add-zero, zero-add}
 use native.Mathlib.Numerals.{add-one}
 use native.Mathlib.Omega.{arith}
 use lib.ListN.{length, get_or, take, drop, length-append}
-use lib.Seq.{drop-cons, take-suc, take_all, take-length}
+use lib.Seq.{drop-cons, drop-length, take-length}
 use borrow.Author.Tests.{le-leb, lt-leb}
 use Rattle.rules.specs.declared.Settings.{Settings}
 use Rattle.rules.specs.Sizes.{Output as Ruled}
 use Rattle.rules.specs.Output.{expand, column_after, columns_after, processed, queued, queued_whole, written, taken}
 use Rattle.rules.specs.Echo.{rubout}
 use Rattle.rules.proofs.OutputLaws.{written_next}
-use Rattle.output.specs.Contract.{in_range, get, OutputBecomes, Writes, takes}
-use Rattle.output.specs.columns.Contract.{Measures, Extends}
+use Rattle.output.specs.Contract.{in_range, get, OutputBecomes, Writes, Echoes, takes}
+use Rattle.output.specs.columns.Contract.{Behind}
 use Rattle.output.specs.declared.Output.{Output}
-use Rattle.output.specs.declared.Wrote.{Wrote}
+use Rattle.queue.specs.declared.Counted.{Counted}
 use Rattle.output.specs.declared.columns.Measure.{Measure}
 use Rattle.output.specs.expansion.Contract.{expanded_bytes}
 use Rattle.output.specs.declared.expansion.Expansion.{Expansion}
 use Rattle.output.proofs.Laws.{get_length, full_of, get_range, range_len, range_get, start_run, same_size, get_after, len_after, column_after_lem}
-use Rattle.output.proofs.Laws.{len_now, becomes, and_then, via_range}
+use Rattle.output.proofs.Laws.{len_now, becomes, and_then, via_range, twice}
 
 -- after i bytes of src, from output o in range in slice l: output p and slice m
 pub record SoFar (x : Settings) (o : Output) (l src : List ℕ) (i : ℕ) (p : Output) (m : List ℕ) : Type 0 where
-  pub upto : i ≤ length src
   pub output : OutputBecomes o l (written x (get o l) (take i src)) p m
+  pub size : length m ≡ length l
   pub fits : p.queue.len ≤ length l
   pub rest : takes x o l src ≡ i + taken (length l) x p.queue.len p.column (drop i src)
 
 pub start : (x : Settings) (o p : Output) (l src : List ℕ) → p ≡ in_range (length l) o → SoFar x p l src 0 p l
 start x o p l src e =
     record {
-      upto = omega arith;
       output = start_run x o p l e;
+      size = refl;
       fits = omega (arith, range_len x o p l e);
       rest =
           ap (λ (n : ℕ). taken (length l) x n p.column src) (range_get x o p l e)
@@ -80,8 +80,7 @@ module _ (x : Settings) (o : Output) (l src : List ℕ) (i : ℕ) (p : Output) (
   unfolding so_far
   next q k le b =
       let w : Ruled = written x (get o l) (take i src) in
-      let z : length m ≡ length l = same_size o p l m w a.output in
-      let n : q.queue.len ≡ p.queue.len + length e = len_now x p q m k e b ∙ omega (arith, a.fits) in
+      let n : q.queue.len ≡ p.queue.len + length e = len_now x p q m k e b ∙ omega (arith, a.fits, a.size) in
       let c : q.column ≡ columns_after x p.column e = column_after_lem p q m k (queued x (get p m) e) b ∙ got_column x p m e in
       let t : taken (length l) x p.queue.len p.column (drop i src)
       ≡ suc (taken (length l) x (p.queue.len + length (expand x p.column (get_or src i 0)))
@@ -92,7 +91,7 @@ module _ (x : Settings) (o : Output) (l src : List ℕ) (i : ℕ) (p : Output) (
       ∙ ap (λ (y : ℕ). suc (taken (length l) x y (columns_after x p.column e) (drop (i + 1) src))) (sym n)
       ∙ ap (λ (y : ℕ). suc (taken (length l) x q.queue.len y (drop (i + 1) src))) (sym c) in
       record {
-        upto = omega arith;
+        size = same_size p q m k (queued x (get p m) e) b ∙ a.size;
         output =
             becomes o q l k (queued x w e) (written x (get o l) (take (i + 1) src)) one_more
             (and_then o p l m w a.output x e q k so_far_fits
@@ -107,22 +106,15 @@ module _ (x : Settings) (o : Output) (l src : List ℕ) (i : ℕ) (p : Output) (
       ∙ ap (λ (n : ℕ). i + n) (taken_full (length l) x p.queue.len p.column src i lt (rw (← ee) over))
       ∙ add-zero i
 
-drop_all : (n : ℕ) (l : List ℕ) → length l ≤ n → drop n l ≡ []
-drop_all zero [] le = refl
-drop_all zero (b ∷ l) le = absurd (omega arith)
-drop_all (suc n) [] le = refl
-drop_all (suc n) (b ∷ l) le = drop_all n l (omega arith)
-
-pub done : (x : Settings) (o : Output) (l src : List ℕ) (i : ℕ) (p : Output) (m : List ℕ) → SoFar x o l src i p m → length src ≤ i
-    → takes x o l src ≡ i
-done x o l src i p m a le =
+pub done : (x : Settings) (o : Output) (l src : List ℕ) (p : Output) (m : List ℕ) → SoFar x o l src (length src) p m → takes x o l src ≡ length src
+done x o l src p m a =
     a.rest
-    ∙ ap (λ (r : List ℕ). i + taken (length l) x p.queue.len p.column r) (drop_all i src le)
-    ∙ add-zero i
+    ∙ ap (λ (r : List ℕ). length src + taken (length l) x p.queue.len p.column r) (drop-length src)
+    ∙ add-zero (length src)
 
 -- the promise of a write that took i bytes
 pub wrote : (x : Settings) (o₀ o : Output) (l src : List ℕ) (i : ℕ) (p : Output) (m : List ℕ) → o ≡ in_range (length l) o₀ → SoFar x o l src i p m
-    → takes x o l src ≡ i → Writes x o₀ l src (record { output = p; count = i }) m
+    → takes x o l src ≡ i → Writes x o₀ l src (record { rest = p; count = i }) m
 wrote x o₀ o l src i p m e a t =
     let g : get o l ≡ get o₀ l = ap (λ (y : Output). get y l) e ∙ get_range o₀ l in
     let c : o.column ≡ o₀.column = ap (λ (y : Output). y.column) e in
@@ -131,7 +123,7 @@ wrote x o₀ o l src i p m e a t =
     ∙ ap (λ (y : ℕ). taken (length l) x (length (get o l).queue) y src) (sym c) ∙ t in
     record {
       count = sym t';
-      output =
+      rest =
           becomes o₀ p l m (written x (get o₀ l) (take i src)) (written x (get o₀ l) (take (takes x o₀ l src) src))
           (ap (λ (n : ℕ). written x (get o₀ l) (take n src)) (sym t'))
           (via_range o₀ o p l m (λ (w : Ruled). written x w (take i src)) e a.output);
@@ -147,15 +139,15 @@ taken_all N x n c (b ∷ bs) le =
     let k : length (e ++ r) ≡ length e + length r = length-append e r in
     rw (le-leb (n + length e) N (omega arith)) (ap suc (taken_all N x (n + length e) (columns_after x c e) bs (omega arith)))
 
-pub shown_of : (x : Settings) (o : Output) (l bs : List ℕ) (r : Wrote) (m : List ℕ) → length (get o l).queue + length (processed x o.column bs) ≤ length l
-    → Writes x o l bs r m → OutputBecomes o l (queued_whole (length l) x (get o l) (processed x o.column bs)) r.output m
+shown_of : (x : Settings) (o : Output) (l bs : List ℕ) (r : Counted Output) (m : List ℕ)
+    → length (get o l).queue + length (processed x o.column bs) ≤ length l → Writes x o l bs r m → Echoes x o l bs r.rest m
 unfolding get
 shown_of x o l bs r m le w =
     let t : takes x o l bs ≡ length bs = taken_all (length l) x (length (get o l).queue) o.column bs le in
     let all : take (takes x o l bs) bs ≡ bs = ap (λ (n : ℕ). take n bs) t ∙ take-length bs in
-    becomes o r.output l m (written x (get o l) (take (takes x o l bs) bs)) (queued_whole (length l) x (get o l) (processed x o.column bs))
+    becomes o r.rest l m (written x (get o l) (take (takes x o l bs) bs)) (queued_whole (length l) x (get o l) (processed x o.column bs))
     (ap (written x (get o l)) all ∙ sym (rw (le-leb (length (get o l).queue + length (processed x o.column bs)) (length l) le)))
-    w.output
+    w.rest
 
 ---- 8,32,8
 
@@ -197,28 +189,40 @@ rubout_length (suc n) = omega (arith, rubout_length n)
 
 ---- show: measured first
 
--- after i bytes of bs
-pub record Measuring (x : Settings) (o : Output) (n : ℕ) (bs : List ℕ) (i : ℕ) (m : Measure) : Type 0 where
-  pub upto : i ≤ length bs
-  pub so : Measures x (n - min o.queue.len n) o.column (take i bs) m
+-- the echo fits, or it does not
+pub shows : (x : Settings) (o : Output) (l bs : List ℕ) (m : Measure) → Behind x (length l - min o.queue.len (length l)) o.column bs m
+    → (r : Counted Output) (l' : List ℕ) → Writes x o l bs r l' → Echoes x o l bs r.rest l'
+shows x o l bs m h r l' w = shown_of x o l bs r l' (rw get_length (omega (arith, h.left))) w
 
-pub measuring_next : (x : Settings) (o : Output) (n : ℕ) (bs : List ℕ) (i : ℕ) (m k : Measure) → Measuring x o n bs i m → i < length bs
-    → Extends x m (get_or bs i 0) k → Measuring x o n bs (i + 1) k
-measuring_next x o n bs i m k a lt e =
-    let one : take (i + 1) bs ≡ take i bs ++ (get_or bs i 0 ∷ []) = rw add-one (take-suc bs i 0 lt) in
-    record { upto = omega arith; so = rw one (e (n - min o.queue.len n) o.column (take i bs) a.so) }
+pub shows_nothing : (x : Settings) (o p : Output) (l bs : List ℕ) → length l - min o.queue.len (length l) < length (processed x o.column bs)
+    → p ≡ in_range (length l) o → Echoes x o l bs p l
+shows_nothing x o p l bs lt e = full_of x o p l e (processed x o.column bs) (omega (arith, range_len x o p l e))
 
-module _ (x : Settings) (o : Output) (l bs : List ℕ) (i : ℕ) (m : Measure) (a : Measuring x o (length l) bs i m) (le : length bs ≤ i) where
-  all_of : Measures x (length l - min o.queue.len (length l)) o.column bs m
-  all_of = rw (take_all i bs le) at a.so
+---- Runs of bytes as they are
 
-  pub shows : m.fits ≡ true → (r : Wrote) (l' : List ℕ) → Writes x o l bs r l'
-      → OutputBecomes o l (queued_whole (length l) x (get o l) (processed x o.column bs)) r.output l'
-  shows t r l' w = shown_of x o l bs r l' (rw get_length (omega (arith, (all_of.fits t).0))) w
+-- the bytes e are queued behind those that o, in range, held in slice l: output p and slice m
+pub record Queues (x : Settings) (o : Output) (l e : List ℕ) (p : Output) (m : List ℕ) : Type 0 where
+  pub size : length m ≡ length l
+  pub len : p.queue.len ≡ o.queue.len + length e
+  pub so : OutputBecomes o l (queued x (get o l) e) p m
 
-  pub shows_nothing : m.fits ≡ false → (p : Output) → p ≡ in_range (length l) o
-      → OutputBecomes o l (queued_whole (length l) x (get o l) (processed x o.column bs)) p l
-  shows_nothing t p e = full_of x o p l e (processed x o.column bs) (omega (arith, all_of.full t, range_len x o p l e))
+-- none yet, from the output in range; the first; more
+pub queues_none : (x : Settings) (o p : Output) (l : List ℕ) → p ≡ in_range (length l) o → Queues x p l [] p l
+queues_none x o p l e = record { size = refl; len = omega arith; so = start_run x o p l e }
+
+pub queues_first : (x : Settings) (o p : Output) (l e m : List ℕ) → o.queue.len ≤ length l → OutputBecomes o l (queued x (get o l) e) p m
+    → Queues x o l e p m
+queues_first x o p l e m le s =
+    record { size = same_size o p l m (queued x (get o l) e) s; len = len_now x o p l m e s ∙ omega arith; so = s }
+
+pub queues_more : (x : Settings) (o p r : Output) (l e m b k : List ℕ) → Queues x o l e p m → p.queue.len ≤ length l
+    → OutputBecomes p m (queued x (get p m) b) r k → Queues x o l (e ++ b) r k
+queues_more x o p r l e m b k a le s =
+    record {
+      size = same_size p r m k (queued x (get p m) b) s ∙ a.size;
+      len = len_now x p r m k b s ∙ omega (arith, a.len, a.size, length-append e b);
+      so = twice x o p r l m k e b (rw get_length (omega (arith, a.len))) a.so s;
+    }
 
 ---- put, by what the byte turns into
 

@@ -24,13 +24,13 @@ after_sending : Output → List ℕ → List ℕ → Output
 after_sending o l y =
     put (record { queue = drop (length y) (held o.queue l); column = o.column; stopped = o.stopped }) ((o.queue.head + length y) % length l)
 
-pub sent_stopped : (o p : Output) (l d : List ℕ) → o.stopped ≡ true → p ≡ in_range (length l) o → Sends o l d (record { output = p; count = 0 }) d
+pub sent_stopped : (o p : Output) (l d : List ℕ) → o.stopped ≡ true → p ≡ in_range (length l) o → Sends o l d (record { rest = p; count = 0 }) d
 unfolding get after_sending
 sent_stopped o p l d t e =
     let none : oldest (get o l) (length d) ≡ [] = rw t in
     record {
       count = ap length (sym none);
-      output =
+      rest =
           e
           ∙ ap (λ (q : Queue). record { queue = q; column = o.column; stopped = o.stopped }) (laid_fitted o.queue l)
           ∙ ap (λ (h : ℕ). record { queue = laid (h % length l) (held o.queue l); column = o.column; stopped = o.stopped })
@@ -40,14 +40,14 @@ sent_stopped o p l d t e =
     }
 
 pub sent_some : (o : Output) (l d d' : List ℕ) (r : Counted Queue) → o.stopped ≡ false → Takes o.queue l d r d'
-    → Sends o l d (record { output = record { queue = r.rest; column = o.column; stopped = o.stopped }; count = r.count }) d'
+    → Sends o l d (record { rest = record { queue = r.rest; column = o.column; stopped = o.stopped }; count = r.count }) d'
 unfolding get after_sending
 sent_some o l d d' r t k =
     let y : List ℕ = take (length d) (held o.queue l) in
     let same : oldest (get o l) (length d) ≡ y = rw t in
     record {
       count = k.count ∙ ap length (sym same);
-      output =
+      rest =
           ap (λ (q : Queue). record { queue = q; column = o.column; stopped = o.stopped }) k.rest
           ∙ ap (λ (c : List ℕ). record { queue = laid ((o.queue.head + length y) % length l) c; column = o.column; stopped = o.stopped })
           (sym (drop_taken (length d) (held o.queue l)))

@@ -3,14 +3,13 @@
 use Rattle.std.specs.Prelude.{ℕ, ◌+◌, ◌-◌, ◌%◌, min, ◌≡◌, List, [], ◌++◌, length, drop, take}
 use Rattle.queue.specs.Ring.{stores}
 use Rattle.queue.specs.Queue.{held, fitted, laid}
+use Rattle.queue.specs.declared.Counted.{Counted}
 use Rattle.rules.specs.declared.Settings.{Settings}
 use Rattle.rules.specs.Sizes.{Output as Ruled}
 use Rattle.rules.specs.Output.{oldest, written, taken, processed, queued_whole}
 use Rattle.output.specs.declared.Output.{Output}
 use Rattle.output.specs.declared.columns.Measure.{Measure}
-use Rattle.output.specs.columns.Contract.{Measures}
-use Rattle.output.specs.declared.Sent.{Sent}
-use Rattle.output.specs.declared.Wrote.{Wrote}
+use Rattle.output.specs.columns.Contract.{Behind}
 
 -- the output with its numbers in range of n bytes
 abbrev pub in_range : ℕ → Output → Output
@@ -30,15 +29,15 @@ pub record OutputBecomes (o : Output) (l : List ℕ) (w : Ruled) (r : Output) (l
   pub slice : l' ≡ stores (length l) l (o.queue.head % length l) w.queue
 
 -- The oldest bytes are given into d, none while stopped; the slice is as it was.
-pub record Sends (o : Output) (l d : List ℕ) (r : Sent) (d' : List ℕ) : Type 0 where
+pub record Sends (o : Output) (l d : List ℕ) (r : Counted Output) (d' : List ℕ) : Type 0 where
   pub count : r.count ≡ length (oldest (get o l) (length d))
-  pub output : r.output ≡ put (record { queue = drop (length (oldest (get o l) (length d))) (get o l).queue; column = o.column; stopped = o.stopped })
+  pub rest : r.rest ≡ put (record { queue = drop (length (oldest (get o l) (length d))) (get o l).queue; column = o.column; stopped = o.stopped })
       ((o.queue.head + length (oldest (get o l) (length d))) % length l)
   pub buffer : d' ≡ oldest (get o l) (length d) ++ drop (length (oldest (get o l) (length d))) d
 
 -- the room that an output has in n places, before any byte
 abbrev pub Begins : Output → ℕ → Measure → Type 0
-Begins o n m = (x : Settings) → Measures x (n - min o.queue.len n) o.column [] m
+Begins o n m = (x : Settings) → Behind x (n - min o.queue.len n) o.column [] m
 
 ---- What a write promises
 
@@ -46,9 +45,9 @@ Begins o n m = (x : Settings) → Measures x (n - min o.queue.len n) o.column []
 abbrev pub takes : Settings → Output → List ℕ → List ℕ → ℕ
 takes x o l src = taken (length l) x (length (get o l).queue) o.column src
 
-pub record Writes (x : Settings) (o : Output) (l src : List ℕ) (r : Wrote) (l' : List ℕ) : Type 0 where
+pub record Writes (x : Settings) (o : Output) (l src : List ℕ) (r : Counted Output) (l' : List ℕ) : Type 0 where
   pub count : r.count ≡ takes x o l src
-  pub output : OutputBecomes o l (written x (get o l) (take (takes x o l src) src)) r.output l'
+  pub rest : OutputBecomes o l (written x (get o l) (take (takes x o l src) src)) r.rest l'
 
 ---- What an echo promises
 

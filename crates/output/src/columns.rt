@@ -1,7 +1,7 @@
 // Document 01, 'Output': the column behind a byte, and a run of bytes that is measured before it is queued.
-ghost use Rattle.std.specs.Prelude.{◌≡◌, ◌&&◌, cond, replicate};
-ghost use Rattle.rules.specs.Output.{capped, column_after, columns_after};
-ghost use Rattle.output.specs.columns.Contract.{Extends};
+ghost use Rattle.std.specs.Prelude.{◌≡◌, replicate};
+ghost use Rattle.rules.specs.Output.{capped, moved, column_after, columns_after};
+ghost use Rattle.output.specs.columns.Contract.{Extends, ExtendsBy};
 ghost use Rattle.output.specs.expansion.Contract.{expanded_bytes};
 
 use super::expansion;
@@ -17,60 +17,40 @@ fn cap(column: u64) -> u32
     ensures { result ≡ capped column }
 {
     if column > LARGEST {
-        return CAPPED;
+        CAPPED
+    } else {
+        column as u32
     }
-    column as u32
 }
 
-// 10 gives 0 under OPOST and ONLRET, else it leaves the column
-fn newline_column(x: Settings, c: u32) -> u32
-    ensures { result ≡ capped (cond (x.opost && x.onlret) 0 c) }
+// where the byte b leaves column c, before the cap
+fn moved(x: Settings, c: u32, b: u8) -> u64
+    ensures { result ≡ moved x c b }
 {
-    if x.opost {
-        if x.onlret {
-            return 0;
-        }
-        return cap(c as u64);
+    let wide = c as u64;
+    match b {
+        13 => 0,
+        8 => wide.saturating_sub(1),
+        9 => wide / 8 * 8 + 8,
+        10 if x.opost && x.onlret => 0,
+        0..=31 | 127 => wide,
+        _ => wide + 1,
     }
-    cap(c as u64)
 }
 
+#[tactic(auto, unfolding(rules::specs::Output::column_after))]
 pub fn next_column(x: Settings, c: u32, b: u8) -> u32
     ensures { result ≡ column_after x c b }
 {
-    let wide = c as u64;
-    if b == 13 {
-        return 0;
-    }
-    if b == 8 {
-        if wide == 0 {
-            return 0;
-        }
-        return cap(wide - 1);
-    }
-    if b == 9 {
-        return cap(wide / 8 * 8 + 8);
-    }
-    if b == 10 {
-        return newline_column(x, c);
-    }
-    if b < 32 {
-        return cap(wide);
-    }
-    if b == 127 {
-        return cap(wide);
-    }
-    cap(wide + 1)
+    cap(moved(x, c, b))
 }
 
 fn column_after_spaces(x: Settings, c: u32, n: usize) -> u32
     ensures { result ≡ columns_after x c (replicate n 32) }
 {
     let mut column = c;
-    let mut k = 0;
-    while k < n {
+    for _ in 0..n {
         column = next_column(x, column, 32);
-        k += 1;
     }
     column
 }
@@ -86,33 +66,34 @@ fn column_after(x: Settings, c: u32, expanded: Expansion) -> u32
     }
 }
 
-// A run of bytes that is measured before it is queued: the room left, the column, and whether it still fits.
+// Behind a run of bytes that is measured before it is queued: the room left, and the column.
 #[derive(Clone, Copy)]
 pub struct Measure {
-    pub fits: bool,
     pub room: usize,
     pub column: u32,
 }
 
 impl Measure {
-    // with the byte b behind the others
-    pub fn and(self, x: Settings, b: u8) -> Measure
+    // with the byte b behind the others, if it fits
+    pub fn and(self, x: Settings, b: u8) -> Option<Measure>
         ensures { Extends x self b result }
     {
         let expanded = expansion::expand(x, self.column, b);
-        let width = expansion::width(expanded);
-        let room = self.room;
-        if room < width {
-            return Measure {
-                fits: false,
-                room: 0,
-                column: self.column,
-            };
-        }
-        Measure {
-            fits: self.fits,
-            room: room - width,
+        let room = self.room.checked_sub(expansion::width(expanded))?;
+        Some(Measure {
+            room,
             column: column_after(x, self.column, expanded),
+        })
+    }
+
+    // with all of bytes behind the others, if they fit
+    pub fn and_all(self, x: Settings, bytes: &[u8]) -> Option<Measure>
+        ensures { ExtendsBy x self bytes.now result }
+    {
+        let mut measure = self;
+        for b in bytes {
+            measure = measure.and(x, *b)?;
         }
+        Some(measure)
     }
 }

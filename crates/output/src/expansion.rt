@@ -17,58 +17,37 @@ pub enum Expansion {
 fn newline(x: Settings, c: u32) -> Expansion
     ensures { expanded_bytes result ≡ newlineOf x c }
 {
-    if x.onlcr {
-        if x.onocr {
-            if c == 0 {
-                return Expansion::Byte(10);
-            }
-            return Expansion::Pair;
-        }
-        return Expansion::Pair;
+    if x.onlcr && !(x.onocr && c == 0) {
+        Expansion::Pair
+    } else {
+        Expansion::Byte(10)
     }
-    Expansion::Byte(10)
 }
 
 fn carriage_return(x: Settings, c: u32) -> Expansion
     ensures { expanded_bytes result ≡ returnOf x c }
 {
     if x.ocrnl {
-        return Expansion::Byte(10);
+        Expansion::Byte(10)
+    } else if x.onocr && c == 0 {
+        Expansion::Nothing
+    } else {
+        Expansion::Byte(13)
     }
-    if x.onocr {
-        if c == 0 {
-            return Expansion::Nothing;
-        }
-        return Expansion::Byte(13);
-    }
-    Expansion::Byte(13)
 }
 
+#[tactic(auto, unfolding(rules::specs::Output::expand))]
 pub fn expand(x: Settings, c: u32, b: u8) -> Expansion
     ensures { expanded_bytes result ≡ expand x c b }
 {
-    if x.opost {
-        if b == 4 {
-            if x.onoeot {
-                return Expansion::Nothing;
-            }
-            return Expansion::Byte(4);
-        }
-        if b == 9 {
-            if x.tab3 {
-                let past = (c % 8) as usize;
-                return Expansion::Spaces(8 - past);
-            }
-            return Expansion::Byte(9);
-        }
-        if b == 13 {
-            return carriage_return(x, c);
-        }
-        if b == 10 {
-            return newline(x, c);
-        }
+    match b {
+        _ if !x.opost => Expansion::Byte(b),
+        4 if x.onoeot => Expansion::Nothing,
+        9 if x.tab3 => Expansion::Spaces(8 - (c % 8) as usize),
+        13 => carriage_return(x, c),
+        10 => newline(x, c),
+        _ => Expansion::Byte(b),
     }
-    Expansion::Byte(b)
 }
 
 pub fn width(expanded: Expansion) -> usize

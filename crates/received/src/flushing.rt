@@ -32,7 +32,7 @@ pub(crate) fn overflow(p: Port, n: usize, out: &mut [u8]) -> Port
     ensures { Turns p n out.old fit.overflow result out.new }
 {
     if p.settings.imaxbel {
-        p.with_output(output::bell(p.output, p.settings, out))
+        p.with_output(p.output.bell(p.settings, out))
     } else {
         flush_input(p, n, out)
     }

@@ -7,6 +7,7 @@ use lib.ListN.{length, take, drop, length-take, length-drop}
 use lib.Dec.{ltb, eqb}
 use borrow.Author.Tests.{eqb-true}
 use Rattle.queue.specs.Ring.{stores, ring}
+use Rattle.queue.specs.declared.Counted.{Counted}
 use Rattle.queue.proofs.Rings.{stores_length, ring_length, drop_ring}
 use Rattle.queue.proofs.Laws.{laid_again, put_same}
 use Rattle.rules.specs.declared.Outcome.TheVariants.{Ok, Refused}
@@ -16,14 +17,12 @@ use Rattle.rules.specs.Output as rule
 use Rattle.rules.proofs.OutputLaws.{append_nil}
 use Rattle.output.specs.Contract as output
 use Rattle.output.specs.declared.Output.{Output}
-use Rattle.output.specs.declared.Wrote.{Wrote}
 use Rattle.port.specs.State.{get, with_output}
 use Rattle.port.specs.Sending.{keeps, after_write_by, after_write, result, after_transmit, Outcomes}
 use Rattle.port.specs.declared.Port.{Port}
 use Rattle.port.specs.declared.Answered.{Answered}
 use native.Mathlib.Omega.{arith}
 use Rattle.queue.specs.Queue.{held}
-use Rattle.output.specs.declared.Sent.{Sent}
 use lib.Seq.{take_all}
 use Rattle.rules.specs.declared.Settings.{Settings}
 use Rattle.discipline.specs.sending.Contract.{second, third, MovesThrough}
@@ -34,14 +33,14 @@ module _ (p : Port) (os src : List ℕ) where
   unfolding after_write get
   hung_of a e h = ap (λ (y : Answered). result y os src) e ∙ rw h
 
-  module _ (w : Wrote) (m : List ℕ) (b : output.Writes p.settings p.output os src w m) (h : p.hung ≡ false) where
+  module _ (w : Counted Output) (m : List ℕ) (b : output.Writes p.settings p.output os src w m) (h : p.hung ≡ false) where
     -- the slice, where nothing is taken
     untouched : w.count ≡ 0 → m ≡ os
     unfolding output.get
     untouched z =
         let o : Output = p.output in
         let n : output.takes p.settings o os src ≡ 0 = sym b.count ∙ z in
-        b.output.slice
+        b.rest.slice
         ∙ ap (λ (k : ℕ). stores (length os) os (o.queue.head % length os) (rule.written p.settings (output.get o os) (take k src)).queue) n
         ∙ ap (stores (length os) os (o.queue.head % length os)) (append_nil (output.get o os).queue)
         ∙ sym (laid_again o.queue os)
@@ -54,8 +53,8 @@ module _ (p : Port) (os src : List ℕ) where
         ∙ ap (λ (y : List ℕ). keeps p y src (record { outcome = Refused Nothing; count = 0 })) (untouched z)
         ∙ rw (h, ← b.count, ← f, g)
 
-    as_counted : output.OutputBecomes p.output os (rule.written p.settings (output.get p.output os) (take w.count src)) w.output m
-    as_counted = rw b.count b.output
+    as_counted : output.OutputBecomes p.output os (rule.written p.settings (output.get p.output os) (take w.count src)) w.rest m
+    as_counted = rw b.count b.rest
 
     -- the rule, where the port is not hung up and something is taken
     opened : (t : Bool) → t ≡ (ltb 0 (length src) && eqb w.count 0) → t ≡ false
@@ -68,7 +67,7 @@ module _ (p : Port) (os src : List ℕ) where
         ∙ ap (λ (y : ℕ). after_write_by (rule.written_on false (ltb 0 (length src) && eqb y 0) (get p [] [] os) src y) p os src) (sym b.count)
         ∙ ap (λ (y : Bool). after_write_by (rule.written_on false y (get p [] [] os) src w.count) p os src) (sym f ∙ g)
 
-    pub some_of : (a : Answered) (q : Port) (t : Bool) → q ≡ with_output p w.output
+    pub some_of : (a : Answered) (q : Port) (t : Bool) → q ≡ with_output p w.rest
         → a ≡ record { port = q; answer = record { outcome = Ok; count = w.count } }
         → t ≡ (ltb 0 (length src) && eqb w.count 0) → t ≡ false → result a m src ≡ after_write p os src
     unfolding after_write get output.get
@@ -121,14 +120,14 @@ left_there o os d =
     put_same N (n - k) (h + k) os
     ∙ ap (stores N os ((h + k) % N)) (sym (drop_ring N k n h os le))
 
-pub sent_of : (p q : Port) (os d d' : List ℕ) (r : Sent) (a : Answered) → output.Sends p.output os d r d' → q ≡ with_output p r.output
+pub sent_of : (p q : Port) (os d d' : List ℕ) (r : Counted Output) (a : Answered) → output.Sends p.output os d r d' → q ≡ with_output p r.rest
     → a ≡ record { port = q; answer = record { outcome = Ok; count = r.count } } → result a os d' ≡ after_transmit p os d
 unfolding after_transmit get output.get
 sent_of p q os d d' r a b eq e =
     ap (λ (y : Answered). result y os d') e
     ∙ ap (λ (y : Port). result (record { port = y; answer = record { outcome = Ok; count = r.count } }) os d') eq
     ∙ (λ i. record {
-      port = with_output p (b.output i);
+      port = with_output p (b.rest i);
       slice = left_there p.output os d i;
       lent = (b.buffer ∙ ap (λ (y : List ℕ). y ++ drop (length y) d) (sym (append_nil (rule.oldest (output.get p.output os) (length d))))) i;
       answer = record { outcome = Ok; count = b.count i };

@@ -1,5 +1,5 @@
 -- What a line shows again, place by place: measured, then shown. Assumes nothing.
-use mathlib.Core.Path.{◌≡◌, refl, sym, ap, subst, ◌∙◌}
+use mathlib.Core.Path.{◌≡◌, sym, ap, subst, ◌∙◌}
 use mathlib.Core.Bool.{Bool, true, false, cond}
 use mathlib.Core.List.{List, [], ◌∷◌, ◌++◌, append_assoc}
 use Prim.Native.Nat.{ℕ, zero, suc, ◌+◌, ◌-◌, ◌<◌, ◌≤◌, min}
@@ -8,6 +8,8 @@ use native.Mathlib.Omega.{arith}
 use lib.ListN.{length, get_or, length-append}
 use lib.Dec.{leb}
 use borrow.Author.Tests.{le-leb, lt-leb, leb-true, leb-false}
+use Rattle.std.specs.Prelude.{Option, Some, None}
+use Rattle.std.specs.Option.{is_some}
 use Rattle.queue.specs.Queue.{held}
 use Rattle.rules.specs.declared.Settings.{Settings}
 use Rattle.rules.specs.Sizes.{Place, Output as Ruled}
@@ -15,12 +17,11 @@ use Rattle.rules.specs.Output.{columns_after, processed, queued}
 use Rattle.rules.specs.Editing.{units, reprint}
 use Rattle.rules.specs.Echo.{visible, line_echo, edit_shows, edit_echo}
 use Rattle.rules.proofs.OutputLaws.{append_nil, processed_append, processed_part}
-use Rattle.output.specs.Contract.{in_range, get, OutputBecomes, Begins, echoed, Echoes}
-use Rattle.output.specs.columns.Contract.{Measures, Extends}
+use Rattle.output.specs.Contract.{in_range, get, OutputBecomes, echoed, Echoes}
+use Rattle.output.specs.columns.Contract.{Behind, Measures, Extends, ExtendsBy}
 use Rattle.output.specs.declared.columns.Measure.{Measure}
 use Rattle.output.specs.declared.Output.{Output}
 use Rattle.output.proofs.Laws.{becomes, get_after, get_length, column_after_lem, same_size, range_len, twice, whole_fits, full_of}
-use Rattle.echo.specs.Contract.{ExtendsBy}
 use Rattle.echo.proofs.Laws.{shows_as, shows_none}
 use Rattle.input.specs.Contract.{get as input, Within}
 use Rattle.input.specs.declared.Input.{Input}
@@ -32,8 +33,17 @@ use Rattle.output.proofs.Run.{got_column}
 
 ---- One place
 
-pub place_unseen : (x : Settings) (i : Input) (bs ms : List ℕ) (k : ℕ) (t : Bool) → t ≡ shows_at i ms k → t ≡ false → [] ≡ place_echo x i bs ms k
-place_unseen x i bs ms k t et unseen = ap (λ (y : Bool). cond y (visible x (get_or (held i.queue bs) k 0)) []) (sym unseen ∙ et)
+module _ (x : Settings) (i : Input) (bs ms : List ℕ) (k : ℕ) (t : Bool) (et : t ≡ shows_at i ms k) where
+  pub place_seen : (b : ℕ) → t ≡ true → b ≡ get_or (held i.queue bs) k 0 → visible x b ≡ place_echo x i bs ms k
+  place_seen b seen eb =
+      ap (visible x) eb
+      ∙ ap (λ (y : Bool). cond y (visible x (get_or (held i.queue bs) k 0)) []) (sym seen ∙ et)
+
+  pub place_unseen : t ≡ false → [] ≡ place_echo x i bs ms k
+  place_unseen unseen = ap (λ (y : Bool). cond y (visible x (get_or (held i.queue bs) k 0)) []) (sym unseen ∙ et)
+
+pub extends_none : (x : Settings) (m : Measure) → ExtendsBy x m [] (Some m)
+extends_none x m = λ room c bs h. subst (λ (l : List ℕ). Behind x room c l m) (sym (append_nil bs)) h
 
 ---- A run, and an echo behind it that fits
 
@@ -112,42 +122,35 @@ module _ (x : Settings) (i : Input) (bs ms : List ℕ) (e : length bs ≡ length
   part o l k lo hi le =
       rw get_length (omega (arith, part_from o.column (i.queue.len - k) k (omega arith) lo))
 
----- fits
+---- line_measured, fits
 
--- Places from the start of the line to k are measured, m₀ being measured before.
-pub record Measuring (x : Settings) (i : Input) (bs ms : List ℕ) (m₀ : Measure) (k : ℕ) (m : Measure) : Type 0 where
-  pub low : i.ready ≤ k
-  pub high : k ≤ i.queue.len
-  pub so : (b room c : ℕ) → Measures x room c (reprinted x i bs ms b i.ready) m₀ → Measures x room c (reprinted x i bs ms b k) m
+module _ (x : Settings) (i : Input) (bs ms : List ℕ) (e : length bs ≡ length ms) (h : Within i (length ms)) (b room c : ℕ) where
+  -- one place more
+  pub measured_next : (k : ℕ) (m : Measure) (r : Option Measure) → i.ready ≤ k → k < i.queue.len → Behind x room c (reprinted x i bs ms b k) m
+      → ExtendsBy x m (place_echo x i bs ms k) r → Measures x room c (reprinted x i bs ms b (k + 1)) r
+  measured_next k m r le lt w s =
+      subst (λ (l : List ℕ). Measures x room c l r) (sym (reprinted_next x i bs ms e h b k le lt)) (s room c (reprinted x i bs ms b k) w)
 
-module _ (x : Settings) (i : Input) (bs ms : List ℕ) (e : length bs ≡ length ms) (h : Within i (length ms)) (m₀ : Measure) where
-  pub measuring_next : (k : ℕ) (m r : Measure) → Measuring x i bs ms m₀ k m → k < i.queue.len → ExtendsBy x m (place_echo x i bs ms k) r
-      → Measuring x i bs ms m₀ (k + 1) r
-  measuring_next k m r a lt s =
-      record {
-        low = omega (arith, a.low);
-        high = omega arith;
-        so = λ b room c w. subst (λ (l : List ℕ). Measures x room c l r) (sym (reprinted_next x i bs ms e h b k a.low lt))
-            (s room c (reprinted x i bs ms b k) (a.so b room c w));
-      }
+  -- what does not fit before place k, does not fit with the places from it on
+  pub measured_past : (k : ℕ) → i.ready ≤ k → k ≤ i.queue.len → Measures x room c (reprinted x i bs ms b k) None
+      → Measures x room c (reprinted x i bs ms b i.queue.len) None
+  measured_past k lo hi lt = omega (arith, part_from x i bs ms e h b c (i.queue.len - k) k (omega arith) lo)
 
-  pub measured_all : (o : Output) (size b : ℕ) (begun own : Measure) → Begins o size begun → ExtendsBy x begun (visible x b) own → Extends x own 10 m₀
-      → (k : ℕ) (m : Measure) → Measuring x i bs ms m₀ k m → i.queue.len ≤ k → m.fits ≡ leb (needed x o i bs ms size b) size
-  measured_all o size b begun own f s t k m a le = by m.fits refl
-    where
-      first : Measures x (size - min o.queue.len size) o.column (reprinted x i bs ms b i.ready) m₀
-      first =
-          subst (λ (l : List ℕ). Measures x (size - min o.queue.len size) o.column l m₀) (reprinted_first x i bs ms e h b)
-          (t (size - min o.queue.len size) o.column (visible x b) (s (size - min o.queue.len size) o.column [] (f x)))
+  -- before the line's first place
+  pub measured_first : (own : Measure) (r : Option Measure) → Behind x room c (visible x b) own → Extends x own 10 r
+      → Measures x room c (reprinted x i bs ms b i.ready) r
+  measured_first own r w s = subst (λ (l : List ℕ). Measures x room c l r) (reprinted_first x i bs ms e h b) (s room c (visible x b) w)
 
-      last : Measures x (size - min o.queue.len size) o.column (reprinted x i bs ms b i.queue.len) m
-      last =
-          subst (λ (n : ℕ). Measures x (size - min o.queue.len size) o.column (reprinted x i bs ms b n) m) (le_antisymm a.high le)
-          (a.so b (size - min o.queue.len size) o.column first)
+  pub own_past : Measures x room c (visible x b) None → Measures x room c (reprinted x i bs ms b i.queue.len) None
+  own_past lt =
+      let line = ap (λ (l : List ℕ). length (processed x c l)) (reprinted_first x i bs ms e h b) in
+      measured_past i.ready (omega arith) h.ready (omega (arith, processed_part x c (visible x b) (10 ∷ [])))
 
-      by : (y : Bool) → m.fits ≡ y → y ≡ leb (needed x o i bs ms size b) size
-      by true ey = sym (le-leb (needed x o i bs ms size b) size (omega (arith, (last.fits ey).0)))
-      by false ey = sym (lt-leb (needed x o i bs ms size b) size (omega (arith, last.full ey)))
+-- what is measured in the room that is left, fits
+pub fits_if : (x : Settings) (i : Input) (bs ms : List ℕ) (o : Output) (size b : ℕ) (r : Option Measure)
+    → Measures x (size - min o.queue.len size) o.column (reprinted x i bs ms b i.queue.len) r → is_some r ≡ leb (needed x o i bs ms size b) size
+fits_if x i bs ms o size b (Some m) w = sym (le-leb (needed x o i bs ms size b) size (omega (arith, w.left)))
+fits_if x i bs ms o size b None lt = sym (lt-leb (needed x o i bs ms size b) size (omega arith))
 
 ---- shown_line
 
@@ -159,6 +162,9 @@ pub record Showing (x : Settings) (i : Input) (bs ms : List ℕ) (p₀ : Output)
       → Runs x o l (reprinted x i bs ms b i.ready) p₀ l₀ → Runs x o l (reprinted x i bs ms b k) p m
 
 module _ (x : Settings) (i : Input) (bs ms : List ℕ) (e : length bs ≡ length ms) (h : Within i (length ms)) (p₀ : Output) (l₀ : List ℕ) where
+  pub showing_none : Showing x i bs ms p₀ l₀ i.ready p₀ l₀
+  showing_none = record { low = omega arith; high = h.ready; so = λ o l b le w. w }
+
   pub showing_next : (k : ℕ) (p r : Output) (m n : List ℕ) → Showing x i bs ms p₀ l₀ k p m → k < i.queue.len → Echoes x p m (place_echo x i bs ms k) r n
       → Showing x i bs ms p₀ l₀ (k + 1) r n
   showing_next k p r m n a lt s =
@@ -181,6 +187,9 @@ module _ (x : Settings) (i : Input) (bs ms : List ℕ) (e : length bs ≡ length
         a.so o l b le
         (runs_first x o p₀ l l₀ (reprinted x i bs ms b i.ready) (part x i bs ms e h b o l i.ready (omega arith) h.ready le)
         (shows_as x o p₀ l l₀ (visible x b ++ (10 ∷ [])) (reprinted x i bs ms b i.ready) (reprinted_first x i bs ms e h b) f))
+
+    pub shown_size : length m ≡ length l
+    shown_size = same_size o p l m (queued x (get o l) (processed x o.column (reprinted x i bs ms b k))) shown_run
 
     pub shown_all : i.queue.len ≤ k → Echoes x o l (reprinted x i bs ms b i.queue.len) p m
     shown_all end =

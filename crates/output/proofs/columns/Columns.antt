@@ -1,65 +1,58 @@
--- Laws of the column, and of a run that is measured with one byte more. Assumes nothing.
-use mathlib.Core.Path.{◌≡◌, refl, sym, ap, ◌∙◌}
-use mathlib.Core.Bool.{Bool, true, false, ◌&&◌, cond, false≢true}
-use mathlib.Core.List.{List, [], ◌∷◌, ◌++◌}
-use Prim.Native.Nat.{ℕ, zero, suc, ◌+◌, ◌-◌, ◌<◌, ◌≤◌}
-use native.Mathlib.Numerals.{add-one}
+-- Laws of the column, and of a run that is measured with more bytes behind it. Assumes nothing.
+use mathlib.Core.Path.{◌≡◌, sym, ap, subst, ◌∙◌}
+use mathlib.Core.List.{List, [], ◌∷◌, ◌++◌, append_assoc}
+use Prim.Native.Nat.{ℕ, ◌+◌, ◌-◌, ◌<◌, ◌≤◌}
 use native.Mathlib.Omega.{arith}
-use lib.ListN.{length, replicate, length-append}
+use lib.ListN.{length, replicate, take, drop, get_or, length-append}
+use Rattle.std.specs.Prelude.{Option, Some, None}
+use Rattle.std.proofs.lemmas.List.{replicate-append-replicate, take_more, take-append-drop}
 use Rattle.rules.specs.declared.Settings.{Settings}
-use Rattle.rules.specs.Output.{expand, capped, column_after, columns_after, processed}
+use Rattle.rules.specs.Output.{expand, column_after, columns_after, processed}
 use Rattle.rules.proofs.OutputLaws.{columns_append, processed_snoc, processed_part}
-use Rattle.output.specs.columns.Contract.{Extends}
+use Rattle.output.specs.columns.Contract.{Behind, Measures, Extends, ExtendsBy}
 use Rattle.output.specs.declared.columns.Measure.{Measure}
-
-pub replicate_snoc : (n b : ℕ) → replicate (n + 1) b ≡ replicate n b ++ (b ∷ [])
-replicate_snoc n b = rw add-one (by n)
-  where
-    by : (m : ℕ) → replicate (suc m) b ≡ replicate m b ++ (b ∷ [])
-    by zero = refl
-    by (suc m) = ap (◌∷◌ b) (by m)
 
 pub spaces_next : (x : Settings) (c n d e : ℕ) → d ≡ columns_after x c (replicate n 32) → e ≡ column_after x d 32
     → e ≡ columns_after x c (replicate (n + 1) 32)
 spaces_next x c n d e ed ee =
     ee ∙ ap (λ (k : ℕ). column_after x k 32) ed
-    ∙ sym (ap (columns_after x c) (replicate_snoc n 32) ∙ columns_append x c (replicate n 32) (32 ∷ []))
-
-pub column_newline : (x : Settings) (c b : ℕ) → b ≡ 10 → capped (cond (x.opost && x.onlret) 0 c) ≡ column_after x c b
-unfolding column_after
-column_newline x c b e = rw e
+    ∙ sym (columns_append x c (replicate n 32) (32 ∷ []))
+    ∙ ap (columns_after x c) (replicate-append-replicate n 1 32)
 
 ---- A run that is measured, and one byte more
 
--- the run's length with the byte
-longer : (x : Settings) (m : Measure) (b c : ℕ) (e bs : List ℕ) → e ≡ expand x m.column b → m.column ≡ columns_after x c (processed x c bs)
-    → processed x c (bs ++ (b ∷ [])) ≡ processed x c bs ++ e
-longer x m b c e bs ee ec =
-    processed_snoc x c bs b ∙ ap (λ (k : ℕ). processed x c bs ++ expand x k b) (sym ec) ∙ ap (◌++◌ (processed x c bs)) (sym ee)
+module _ (x : Settings) (m : Measure) (b : ℕ) (e : List ℕ) (ee : e ≡ expand x m.column b) (room c : ℕ) (bs : List ℕ) (h : Behind x room c bs m) where
+  longer : processed x c (bs ++ (b ∷ [])) ≡ processed x c bs ++ e
+  longer = processed_snoc x c bs b ∙ ap (λ (k : ℕ). processed x c bs ++ expand x k b) (sym h.column) ∙ ap (◌++◌ (processed x c bs)) (sym ee)
 
-longer_length : (x : Settings) (m : Measure) (b c : ℕ) (e bs : List ℕ) → e ≡ expand x m.column b → m.column ≡ columns_after x c (processed x c bs)
-    → length (processed x c (bs ++ (b ∷ []))) ≡ length (processed x c bs) + length e
-longer_length x m b c e bs ee ec = ap length (longer x m b c e bs ee ec) ∙ length-append (processed x c bs) e
+  longer_length : length (processed x c (bs ++ (b ∷ []))) ≡ length (processed x c bs) + length e
+  longer_length = ap length longer ∙ length-append (processed x c bs) e
 
-pub measured_full : (x : Settings) (m : Measure) (b w : ℕ) (e : List ℕ) → e ≡ expand x m.column b → w ≡ length e → m.room < w
-    → Extends x m b (record { fits = false; room = 0; column = m.column })
-measured_full x m b w e ee ew lt room c bs h =
-    record { fits = λ t. absurd (false≢true t); full = λ _. by m.fits refl }
-  where
-    by : (t : Bool) → m.fits ≡ t → room < length (processed x c (bs ++ (b ∷ [])))
-    by true t = omega (arith, longer_length x m b c e bs ee (h.fits t).1, (h.fits t).0)
-    by false t = omega (arith, h.full t, processed_part x c bs (b ∷ []))
+  longer_columns : columns_after x c (processed x c (bs ++ (b ∷ []))) ≡ columns_after x m.column e
+  longer_columns = ap (columns_after x c) longer ∙ columns_append x c (processed x c bs) e ∙ ap (λ (k : ℕ). columns_after x k e) (sym h.column)
 
-pub measured_fits : (x : Settings) (m : Measure) (b w d : ℕ) (e : List ℕ) → e ≡ expand x m.column b → w ≡ length e → w ≤ m.room
-    → d ≡ columns_after x m.column e → Extends x m b (record { fits = m.fits; room = m.room - w; column = d })
-measured_fits x m b w d e ee ew le ed room c bs h =
-    record {
-      fits = λ t. (
-        omega (arith, longer_length x m b c e bs ee (h.fits t).1, (h.fits t).0),
-        ed ∙ ap (λ (k : ℕ). columns_after x k e) (h.fits t).1
-            ∙ sym (ap (columns_after x c) (longer x m b c e bs ee (h.fits t).1) ∙ columns_append x c (processed x c bs) e),
-      );
-      full = λ t. omega (arith, h.full t, processed_part x c bs (b ∷ []));
-    }
+module _ (x : Settings) (m : Measure) (b w : ℕ) (e : List ℕ) (ee : e ≡ expand x m.column b) (ew : w ≡ length e) where
+  pub measured_full : (w ≤ m.room → ⊥) → Extends x m b None
+  measured_full lt room c bs h = omega (arith, h.left, longer_length x m b e ee room c bs h)
 
--- before any byte
+  pub measured_fits : (k d : ℕ) → w ≤ m.room → k ≡ m.room - w → d ≡ columns_after x m.column e → Extends x m b (Some (record { room = k; column = d }))
+  measured_fits k d le ek ed room c bs h =
+      record { left = omega (arith, h.left, longer_length x m b e ee room c bs h); column = ed ∙ sym (longer_columns x m b e ee room c bs h) }
+
+---- A run of bytes behind it, i of them so far
+
+pub extends_next : (x : Settings) (m k : Measure) (r : Option Measure) (bs : List ℕ) (i : ℕ) → i < length bs → ExtendsBy x m (take i bs) (Some k)
+    → Extends x k (get_or bs i 0) r → ExtendsBy x m (take (i + 1) bs) r
+extends_next x m k r bs i lt s t room c ys h =
+    rw (take_more bs i 0 lt)
+    (subst (λ (l : List ℕ). Measures x room c l r) (append_assoc ys (take i bs) (get_or bs i 0 ∷ [])) (t room c (ys ++ take i bs) (s room c ys h)))
+
+-- what does not fit, does not fit with more behind it
+pub extends_past : (x : Settings) (m : Measure) (bs : List ℕ) (i : ℕ) → ExtendsBy x m (take i bs) None → ExtendsBy x m bs None
+extends_past x m bs i s room c ys h =
+    omega (
+      arith,
+      s room c ys h,
+      processed_part x c (ys ++ take i bs) (drop i bs),
+      ap (λ (l : List ℕ). length (processed x c l)) (append_assoc ys (take i bs) (drop i bs) ∙ ap (◌++◌ ys) (take-append-drop i bs)),
+    )

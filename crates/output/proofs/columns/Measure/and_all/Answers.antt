@@ -1,0 +1,22 @@
+-- `output::columns::Measure::and_all` meets its contract. Assumes nothing.
+use Prim.Native.Nat.{◌+◌}
+use lib.Seq.{take_all}
+use Rattle.std.specs.Prelude.{Some, None}
+use Rattle.output.proofs.columns.Columns.{extends_next, extends_past}
+use Rattle.output.proofs.columns.Measure.and_all.Goals as goal
+
+pub returns-in_err-measure : goal.returns-in_err-measure
+returns-in_err-measure c =
+    let i = c.loop-b.b-index in
+    let a = c.args in
+    rw c.from_residual.ensures
+    (extends_past a.x a.self a.bytes.now (i + 1)
+    (extends_next a.x a.self c.loop-b.measure None a.bytes.now i c.loop-b-test.true c.loop-b.invariant c.in_err-measure.ensures))
+
+pub loop-b-preserved : goal.loop-b-preserved
+loop-b-preserved c =
+    extends_next c.args.x c.args.self c.loop-b.measure (Some c.in_ok-measure.measure) c.args.bytes.now c.loop-b.b-index c.loop-b-test.true
+    c.loop-b.invariant c.in_ok-measure.ensures
+
+pub returns : goal.returns
+returns c = let all = take_all c.loop-b.b-index c.args.bytes.now c.loop-b-test.false in rw all at c.loop-b.invariant
