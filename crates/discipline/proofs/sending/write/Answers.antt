@@ -7,10 +7,10 @@ returns-then-p c = hung_of _ _ _ _ c.refuses.ensures c.if-p.true
 
 pub returns-then-nothing_taken : goal.returns-then-nothing_taken
 returns-then-nothing_taken c =
-    none_of _ _ _ _ _ c.write-wrote.ensures c.if-p.false _ _ c.refuses-then-nothing_taken.ensures c.nothing_taken.ensures
+    none_of _ _ _ _ _ c.write-count.ensures c.if-p.false _ _ c.refuses-then-nothing_taken.ensures c.nothing_taken.ensures
     c.if-nothing_taken.true (counted_none _ _ _ c.nothing_taken.ensures c.if-nothing_taken.true)
 
 pub returns : goal.returns
 returns c =
-    some_of _ _ _ _ _ c.write-wrote.ensures c.if-p.false _ _ _ c.with_output-after.ensures c.says.ensures c.nothing_taken.ensures
+    some_of _ _ _ _ _ c.write-count.ensures c.if-p.false _ _ _ c.with_output.ensures c.says.ensures c.nothing_taken.ensures
     c.if-nothing_taken.false
