@@ -4,13 +4,12 @@ use mathlib.Core.Logic.{◌⊎◌, ⊎_elim}
 use mathlib.Core.Bool.{Bool, true, false, cond}
 use mathlib.Core.List.{List, [], ◌∷◌, ◌++◌, reverse, reverse-append}
 use Prim.Native.Nat.{ℕ, zero, suc, ◌+◌, ◌-◌, ◌%◌, ◌<◌, ◌≤◌, min}
-use native.Mathlib.Nat.{add-zero, add-suc, le_antisymm}
+use native.Mathlib.Nat.{add-zero, add-suc}
 use native.Mathlib.Omega.{arith}
 use lib.ListN.{length, get_or, take, drop, length-reverse, length-take, length-drop, drop_of_length-le}
 use lib.Seq.{take-suc, drop-append-le, drop-drop}
 use lib.Dec.{eqb}
 use Rattle.queue.specs.Queue.{held}
-use Rattle.queue.proofs.Rings.{lt_or_le}
 use Rattle.rules.specs.Sizes.{Place}
 use Rattle.rules.specs.Editing.{joined, units, places_of, without_units, trailing, Edit, removed, edited}
 use Rattle.rules.specs.declared.Settings.{Settings}
@@ -130,19 +129,6 @@ pub record Seeking (i : Input) (ms : List ℕ) (end at : ℕ) : Type 0 where
   pub high : at ≤ end
   pub none : (k : ℕ) → at ≤ k → k < end → eqb (get_or (held i.queue ms) k 0 % 2) 1 ≡ false
 
-pub seek_begin : (i : Input) (ms : List ℕ) (end : ℕ) → i.ready < end → Seeking i ms end end
-seek_begin i ms end lt = record { low = lt; high = omega arith; none = λ k lo hi. absurd (omega arith) }
-
-pub seek_next : (i : Input) (ms : List ℕ) (end at now : ℕ) → Seeking i ms end now → at + 1 ≡ now → i.ready < at
-    → eqb (get_or (held i.queue ms) at 0 % 2) 1 ≡ false → Seeking i ms end at
-seek_next i ms end at now s en lt further =
-    record {
-      low = lt;
-      high = omega (arith, s.high);
-      none =
-          λ k lo hi. ⊎_elim (λ (w : at < k). s.none k (omega arith) hi) (λ (w : k ≤ at). rw (le_antisymm w lo) further) (lt_or_le at k);
-    }
-
 pub seek_end : (i : Input) (ms : List ℕ) (end at now : ℕ) → Line i ms end → Seeking i ms end now → at + 1 ≡ now
     → (eqb (get_or (held i.queue ms) at 0 % 2) 1 ≡ true) ⊎ (at ≡ i.ready) → Starts i ms end at
 seek_end i ms end at now l s en begins =
@@ -165,9 +151,6 @@ pub record Walked (i : Input) (bs ms : List ℕ) (end : ℕ) (test : List Place 
   pub rest : units_to i bs ms at ≡ drop n (units_to i bs ms end)
 
 module _ (i : Input) (bs ms : List ℕ) (end : ℕ) (test : List Place → Bool) (e : length bs ≡ length ms) where
-  pub walk_begin : i.ready ≤ end → Walked i bs ms end test end 0
-  walk_begin le = record { low = le; fewer = omega arith; count = omega arith; rest = refl }
-
   module _ (at n : ℕ) (w : Walked i bs ms end test at n) where
     pub walk_next : (start : ℕ) → Starts i ms at start → test (places_in i bs ms start at) ≡ true → Walked i bs ms end test start (n + 1)
     walk_next start s passes =
@@ -191,45 +174,13 @@ module _ (i : Input) (bs ms : List ℕ) (end : ℕ) (test : List Place → Bool)
         let k : n ≡ trailing test (units_to i bs ms end) = omega (arith, w.count) in
         record { low = w.low; fewer = w.fewer; count = k; rest = w.rest ∙ ap (λ (x : ℕ). drop x (units_to i bs ms end)) k }
 
-    pub walk_fails : (start : ℕ) → Starts i ms at start → test (places_in i bs ms start at) ≡ false
-        → Cuts i bs ms end (trailing test (units_to i bs ms end)) (record { at = at; units = n })
-    walk_fails start s fails =
-        walk_done
-        (ap (trailing test) (s.unit bs e) ∙ ap (λ (t : Bool). cond t (suc (trailing test (units_to i bs ms start))) 0) fails)
-
     pub walk_end : Within i (length ms) → at ≤ i.ready → Cuts i bs ms end (trailing test (units_to i bs ms end)) (record { at = at; units = n })
     walk_end h le = walk_done (ap (trailing test) (units_none i bs ms e h at le))
 
 pub within_both : (i : Input) (bs ms : List ℕ) → length bs ≡ length ms → Within i (length ms) → Within i (length bs)
 within_both i bs ms e h = rw e h
 
--- further back in the line
-pub line_back : (i : Input) (ms : List ℕ) (end at : ℕ) → Line i ms end → i.ready ≤ at → at ≤ end → Line i ms at
-line_back i ms end at l lo hi = record { within = l.within; low = lo; high = omega (arith, l.high) }
-
 ---- one
-
-pub none_before : (i : Input) (bs ms : List ℕ) (end : ℕ) (f : List (List Place) → ℕ) → length bs ≡ length ms → Line i ms end → end ≤ i.ready
-    → f [] ≡ 0 → Cuts i bs ms end (f (units_to i bs ms end)) (record { at = end; units = 0 })
-none_before i bs ms end f e l le z =
-    let k : 0 ≡ f (units_to i bs ms end) = sym (ap f (units_none i bs ms e l.within end le) ∙ z) in
-    record { low = l.low; fewer = omega arith; count = k; rest = ap (λ (x : ℕ). drop x (units_to i bs ms end)) k }
-
-pub one_before : (i : Input) (ms : List ℕ) (end at : ℕ) → Starts i ms end at → (bs : List ℕ) → length bs ≡ length ms
-    → Cuts i bs ms end (min 1 (length (units_to i bs ms end))) (record { at = at; units = 1 })
-one_before i ms end at s bs e =
-    let us : List (List Place) = units_to i bs ms end in
-    let step : us ≡ places_in i bs ms at end ∷ units_to i bs ms at = s.unit bs e in
-    let k : 1 ≡ min 1 (length us) = sym (ap (λ (l : List (List Place)). min 1 (length l)) step ∙ least (length (units_to i bs ms at))) in
-    record {
-      low = s.low;
-      fewer = omega (arith, s.high);
-      count = k;
-      rest = sym (ap (drop 1) step) ∙ ap (λ (x : ℕ). drop x us) k;
-    }
-  where
-    least : (n : ℕ) → min 1 (suc n) ≡ 1
-    least n = omega arith
 
 ---- last_unit, whole_line
 

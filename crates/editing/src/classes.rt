@@ -26,8 +26,7 @@ fn entry(b: u8) -> u8
 pub(crate) fn class_of(b: u8) -> Class
     ensures { result ≡ class_of b }
 {
-    let letter = entry(b);
-    match letter {
+    match entry(b) {
         b'b' => Class::Blank,
         b'l' => Class::Letter,
         b'c' => Class::Control,

@@ -3,21 +3,13 @@ use mathlib.Core.Logic.{inl, inr}
 use mathlib.Core.Path.{refl}
 use Prim.Native.Nat.{◌-◌}
 use native.Mathlib.Omega.{arith}
-use Rattle.editing.proofs.Laws.{seek_begin, seek_next, seek_end}
+use Rattle.editing.proofs.Laws.{seek_end}
 use Rattle.editing.proofs.unit_start.Goals as goal
-
-pub loop-at-init : goal.loop-at-init
-loop-at-init c = seek_begin c.args.i c.args.marks.now c.args.end c.requires.ready_lt_end
 
 pub returns-then-starts : goal.returns-then-starts
 returns-then-starts c =
     let at = c.loop-at.at in
     seek_end c.args.i c.args.marks.now c.args.end (at - 1) at c.requires.line c.loop-at.invariant (omega arith) (inl (cc))
-
-pub loop-at-preserved : goal.loop-at-preserved
-loop-at-preserved c =
-    let at = c.loop-at.at in
-    seek_next c.args.i c.args.marks.now c.args.end (at - 1) at c.loop-at.invariant (omega arith) (omega arith) (cc)
 
 pub returns : goal.returns
 returns c =

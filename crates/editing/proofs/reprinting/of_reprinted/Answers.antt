@@ -1,13 +1,7 @@
 -- `editing::reprinting::of_reprinted` meets its contract. Assumes nothing.
-use Rattle.editing.proofs.reprinting.Laws.{room_for, reprints, reprints_nothing, reprints_unseen}
+use Rattle.editing.proofs.reprinting.Laws.{reprints, reprints_nothing, reprints_unseen}
 use Rattle.editing.proofs.reprinting.of_reprinted.Goals as goal
 use Rattle.editing.proofs.reprinting.of_reprinted.Goals.{else-x-via-then-x+else-fits, else-x-via-else-x}
-
-pub shown_line-requires : goal.shown_line-requires
-shown_line-requires c =
-    let t = c.fits in
-    let a = c.args in
-    room_for a.x a.o a.i a.bytes.now a.marks.now a.out.now a.b c.requires.bytes_len c.requires.within t.result t.ensures c.if-fits.true
 
 pub returns-then-fits : goal.returns-then-fits
 returns-then-fits c =

@@ -1,22 +1,9 @@
 -- `editing::reprinting::shown` meets its contract. Assumes nothing.
-use Rattle.rules.specs.Echo.{visible}
 use Rattle.echo.proofs.Laws.{shows_as, shows_none}
 use Rattle.editing.specs.reprinting.Contract.{place_echo}
-use Rattle.editing.proofs.reprinting.Laws.{place_seen, place_unseen}
+use Rattle.editing.proofs.reprinting.Laws.{place_unseen}
 use mathlib.Core.List.{[]}
 use Rattle.editing.proofs.reprinting.shown.Goals as goal
-
-pub returns-then-is_shown : goal.returns-then-is_shown
-returns-then-is_shown c =
-    let r = c.show in
-    let v = c.at in
-    let at-if1 = c.if-is_shown in
-    let t = c.is_shown in
-    let a = c.args in
-    shows_as a.x a.o r.result a.out.now r.new.out (visible a.x v.result)
-    (place_echo a.x a.line.now.input a.line.now.bytes.now a.line.now.marks.now a.k)
-    (place_seen a.x a.line.now.input a.line.now.bytes.now a.line.now.marks.now a.k t.result t.ensures v.result at-if1.true v.ensures)
-    r.ensures
 
 pub returns-else-is_shown : goal.returns-else-is_shown
 returns-else-is_shown c =

@@ -1,12 +1,6 @@
 -- `editing::reprinting::shown_line` meets its contract. Assumes nothing.
-use Rattle.editing.proofs.reprinting.Laws.{showing_none, showing_next, shown_size, shown_all}
+use Rattle.editing.proofs.reprinting.Laws.{showing_next, shown_all}
 use Rattle.editing.proofs.reprinting.shown_line.Goals as goal
-
-pub loop-k-init : goal.loop-k-init
-loop-k-init c =
-    let a = c.args in
-    let f = c.show_line-shows in
-    showing_none a.x a.line.now.input a.line.now.bytes.now a.line.now.marks.now a.line.now.same_length a.line.now.within f.result f.new.out
 
 pub loop-k-preserved : goal.loop-k-preserved
 loop-k-preserved c =
@@ -17,14 +11,6 @@ loop-k-preserved c =
     let a = c.args in
     showing_next a.x a.line.now.input a.line.now.bytes.now a.line.now.marks.now a.line.now.same_length a.line.now.within f.result f.new.out l.k l.shows t.result l.out
     t.new.out l.invariant at-loop-test.true t.ensures
-
-pub shape_of-out : goal.shape_of-out
-shape_of-out c =
-    let l = c.loop-k in
-    let f = c.show_line-shows in
-    let a = c.args in
-    shown_size a.x a.line.now.input a.line.now.bytes.now a.line.now.marks.now a.line.now.same_length a.line.now.within f.result f.new.out a.o a.out.now a.b
-    c.requires f.ensures l.k l.shows l.out l.invariant
 
 pub returns : goal.returns
 returns c =
