@@ -42,9 +42,6 @@ module _ (x : Settings) (i : Input) (bs ms : List ℕ) (k : ℕ) (t : Bool) (et 
   pub place_unseen : t ≡ false → [] ≡ place_echo x i bs ms k
   place_unseen unseen = ap (λ (y : Bool). cond y (visible x (get_or (held i.queue bs) k 0)) []) (sym unseen ∙ et)
 
-pub extends_none : (x : Settings) (m : Measure) → ExtendsBy x m [] (Some m)
-extends_none x m = λ room c bs h. subst (λ (l : List ℕ). Behind x room c l m) (sym (append_nil bs)) h
-
 ---- A run, and an echo behind it that fits
 
 -- the run a is queued
@@ -162,9 +159,6 @@ pub record Showing (x : Settings) (i : Input) (bs ms : List ℕ) (p₀ : Output)
       → Runs x o l (reprinted x i bs ms b i.ready) p₀ l₀ → Runs x o l (reprinted x i bs ms b k) p m
 
 module _ (x : Settings) (i : Input) (bs ms : List ℕ) (e : length bs ≡ length ms) (h : Within i (length ms)) (p₀ : Output) (l₀ : List ℕ) where
-  pub showing_none : Showing x i bs ms p₀ l₀ i.ready p₀ l₀
-  showing_none = record { low = omega arith; high = h.ready; so = λ o l b le w. w }
-
   pub showing_next : (k : ℕ) (p r : Output) (m n : List ℕ) → Showing x i bs ms p₀ l₀ k p m → k < i.queue.len → Echoes x p m (place_echo x i bs ms k) r n
       → Showing x i bs ms p₀ l₀ (k + 1) r n
   showing_next k p r m n a lt s =
@@ -187,9 +181,6 @@ module _ (x : Settings) (i : Input) (bs ms : List ℕ) (e : length bs ≡ length
         a.so o l b le
         (runs_first x o p₀ l l₀ (reprinted x i bs ms b i.ready) (part x i bs ms e h b o l i.ready (omega arith) h.ready le)
         (shows_as x o p₀ l l₀ (visible x b ++ (10 ∷ [])) (reprinted x i bs ms b i.ready) (reprinted_first x i bs ms e h b) f))
-
-    pub shown_size : length m ≡ length l
-    shown_size = same_size o p l m (queued x (get o l) (processed x o.column (reprinted x i bs ms b k))) shown_run
 
     pub shown_all : i.queue.len ≤ k → Echoes x o l (reprinted x i bs ms b i.queue.len) p m
     shown_all end =

@@ -180,10 +180,6 @@ pub record Keeps (i : Input) (bs ms : List ℕ) (k kept : ℕ) (bs' ms' : List �
   pub wide : length ms' ≡ length ms
 
 module _ (i : Input) (bs ms : List ℕ) (h : Sound i bs ms) where
-  pub keeps_begin : Keeps i bs ms 0 0 bs ms
-  keeps_begin =
-      record { upto = omega arith; count = refl; few = omega arith; bytes = refl; marks = refl; long = refl; wide = refl }
-
   marks_fit : i.queue.len ≤ length ms
   marks_fit = rw (← h.same) h.within.len
 

@@ -92,9 +92,6 @@ pub record Lined (i : Input) (ms : List ℕ) (k : ℕ) (ms' : List ℕ) : Type 0
   pub long : length ms' ≡ length ms
 
 module _ (i : Input) (ms : List ℕ) (h : Within i (length ms)) where
-  pub line_begin : Lined i ms 0 ms
-  line_begin = record { upto = omega arith; marks = refl; long = refl }
-
   held_long : length (held i.queue ms) ≡ i.queue.len
   held_long = held_length i.queue ms ∙ lesser
     where

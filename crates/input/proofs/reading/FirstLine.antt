@@ -8,7 +8,6 @@ use native.Mathlib.Omega.{arith}
 use lib.ListN.{length, get_or, take, drop, length-take, length-drop, length-map}
 use lib.Seq.{get_or-take, get_or-drop}
 use lib.Dec.{eqb}
-use borrow.Author.Count.{below_more}
 use Rattle.queue.specs.Queue.{held}
 use Rattle.queue.proofs.Laws.{held_length}
 use Rattle.rules.specs.Sizes.{Place}
@@ -31,9 +30,6 @@ ending ys k = eqb (get_or ys k 0 / 2 % 2) 1
 -- the first k mark bytes: no end-of-file mark, no end of a line
 abbrev pub Plain : List ℕ → ℕ → Type 0
 Plain ys k = (j : ℕ) → j < k → (marked ys j ≡ false) × (ending ys j ≡ false)
-
-pub plain_next : (ys : List ℕ) (k : ℕ) → Plain ys k → marked ys k ≡ false → ending ys k ≡ false → Plain ys (k + 1)
-plain_next ys k plain m e = below_more (λ j. (marked ys j ≡ false) × (ending ys j ≡ false)) k plain (m, e)
 
 -- the same of places
 abbrev PlainPlaces : List Place → ℕ → Type 0

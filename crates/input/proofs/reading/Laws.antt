@@ -216,9 +216,6 @@ one_read_bytes {bs = bs} h k = one_read (h bs refl) (k bs refl)
 
 ---- give
 
-pub part_length : (k : ℕ) (d : List ℕ) → k ≤ length d → k ≡ length (take k d)
-part_length k d le = sym (length-take-le k d le)
-
 queue_later : (h n N t : ℕ) (q : Queue) → n ≤ N → t ≤ n → q ≡ record { head = (h + min t (min n N)) % N; len = min n N - t }
     → q ≡ record { head = (h + t) % N; len = n - t }
 queue_later h n N t q fit le e =

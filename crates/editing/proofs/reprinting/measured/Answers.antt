@@ -2,9 +2,7 @@
 use Rattle.rules.specs.Echo.{visible}
 use Rattle.echo.proofs.Laws.{extends_as}
 use Rattle.editing.specs.reprinting.Contract.{place_echo}
-use Rattle.editing.proofs.reprinting.Laws.{place_seen, place_unseen, extends_none}
-use Rattle.std.specs.Prelude.{Some}
-use mathlib.Core.List.{[]}
+use Rattle.editing.proofs.reprinting.Laws.{place_seen}
 use Rattle.editing.proofs.reprinting.measured.Goals as goal
 
 pub returns-then-is_shown : goal.returns-then-is_shown
@@ -16,11 +14,3 @@ returns-then-is_shown c =
     extends_as a.x a.measure c.measured.result (visible a.x v.result) (place_echo a.x a.line.now.input a.line.now.bytes.now a.line.now.marks.now a.k)
     (place_seen a.x a.line.now.input a.line.now.bytes.now a.line.now.marks.now a.k t.result t.ensures v.result at-if1.true v.ensures)
     c.measured.ensures
-
-pub returns-else-is_shown : goal.returns-else-is_shown
-returns-else-is_shown c =
-    let a = c.args in
-    let t = c.is_shown in
-    extends_as a.x a.measure (Some a.measure) [] (place_echo a.x a.line.now.input a.line.now.bytes.now a.line.now.marks.now a.k)
-    (place_unseen a.x a.line.now.input a.line.now.bytes.now a.line.now.marks.now a.k t.result t.ensures c.if-is_shown.false)
-    (extends_none a.x a.measure)

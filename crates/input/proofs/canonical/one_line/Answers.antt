@@ -1,9 +1,6 @@
 -- `input::canonical::one_line` meets its contract. Assumes nothing.
-use Rattle.input.proofs.canonical.GoesOn.{line_begin, line_next, line_end}
+use Rattle.input.proofs.canonical.GoesOn.{line_next, line_end}
 use Rattle.input.proofs.canonical.one_line.Goals as goal
-
-pub loop-k-init : goal.loop-k-init
-loop-k-init c = line_begin c.args.i c.args.marks.now c.requires
 
 pub loop-k-preserved : goal.loop-k-preserved
 loop-k-preserved c =
@@ -14,9 +11,6 @@ loop-k-preserved c =
     let loop = c.loop-k in
     line_next c.args.i c.args.marks.now c.requires loop.k at_at.result at-in-line.result loop.marks at-change.new.ring loop.invariant
     at-loop-test.true at_at.ensures at-in-line.ensures at-change.ensures
-
-pub shape_of-marks : goal.shape_of-marks
-shape_of-marks c = c.loop-k.invariant.long
 
 pub returns : goal.returns
 returns c =

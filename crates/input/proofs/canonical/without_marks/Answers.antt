@@ -1,19 +1,8 @@
 -- `input::canonical::without_marks` meets its contract. Assumes nothing.
 use mathlib.Core.Path.{◌∙◌}
-use native.Mathlib.Omega.{arith}
-use Rattle.input.proofs.canonical.GoesOff.{keeps_begin, keeps_skip, keeps_more, keeps_end}
+use Rattle.input.proofs.canonical.GoesOff.{keeps_skip, keeps_more, keeps_end}
 use Rattle.input.proofs.canonical.without_marks.Goals as goal
 use Rattle.input.proofs.canonical.without_marks.Goals.{then-not-has, else-not-has}
-
-pub loop-k-init : goal.loop-k-init
-loop-k-init c =
-    keeps_begin c.args.i c.args.bytes.now c.args.marks.now c.requires
-
-pub overflow_add-kept : goal.overflow_add-kept
-overflow_add-kept c =
-    let at-loop-test = c.loop-k-test in
-    let at-loop = c.loop-k in
-    omega (arith, at-loop.invariant.few, at-loop-test.true)
 
 pub loop-k-preserved : goal.loop-k-preserved
 loop-k-preserved c =
@@ -32,12 +21,6 @@ loop-k-preserved c =
           (keeps_skip c.args.i bs ms c.requires loop.k loop.kept loop.bytes loop.marks loop.invariant lt
           m.result mark.result m.ensures mark.ensures w.if-not-has.false)
     ]
-
-pub shape_of-bytes : goal.shape_of-bytes
-shape_of-bytes c = c.loop-k.invariant.long
-
-pub shape_of-marks : goal.shape_of-marks
-shape_of-marks c = c.loop-k.invariant.wide
 
 pub returns : goal.returns
 returns c =

@@ -2,8 +2,7 @@
 use mathlib.Core.Path.{◌≡◌}
 use Prim.Native.Nat.{◌≤◌, min}
 use native.Mathlib.Omega.{arith}
-use Rattle.queue.specs.Queue.{held}
-use Rattle.input.proofs.reading.FirstLine.{plain_next, line_at_mark, line_at_end, line_at_stop, line_at_last}
+use Rattle.input.proofs.reading.FirstLine.{line_at_mark, line_at_end, line_at_stop, line_at_last}
 use Rattle.input.proofs.reading.first_line.Goals as goal
 use Rattle.input.proofs.reading.first_line.Goals.{else-most-i-via-then-most-i+else-has-3, else-most-i-via-else-most-i}
 
@@ -14,9 +13,6 @@ returns-then-has c =
 pub returns-then-has-2 : goal.returns-then-has-2
 returns-then-has-2 c =
     line_at_end c.args.i c.args.marks.now c.args.n c.loop-k.k c.requires (omega arith) c.loop-k.invariant (omega arith) (omega arith) (cc) (cc)
-
-pub loop-k-preserved : goal.loop-k-preserved
-loop-k-preserved c = plain_next (held c.args.i.queue c.args.marks.now) c.loop-k.k c.loop-k.invariant (cc) (cc)
 
 pub returns-then-has-3 : goal.returns-then-has-3
 returns-then-has-3 c =

@@ -1,10 +1,6 @@
 -- `input::reading::give` meets its contract. Assumes nothing.
-use Rattle.input.proofs.reading.Laws.{part_length, given_of_lem}
+use Rattle.input.proofs.reading.Laws.{given_of_lem}
 use Rattle.input.proofs.reading.give.Goals as goal
-
-pub slice_bounds-take-end-2 : goal.slice_bounds-take-end-2
-slice_bounds-take-end-2 c =
-    part_length c.args.count c.args.dst.now c.requires.room
 
 pub returns : goal.returns
 returns c =

@@ -2,9 +2,6 @@
 use Rattle.input.proofs.reading.Laws.{line_gives, line_reads}
 use Rattle.input.proofs.reading.read_line.Goals as goal
 
-pub first_line-line-requires : goal.first_line-line-requires
-first_line-line-requires c = rw (← c.requires.same) c.requires.within
-
 pub give-requires : goal.give-requires
 give-requires c =
     line_gives c.args.i c.args.bytes.now c.args.marks.now c.requires c.args.dst.now c.first_line-line.result
