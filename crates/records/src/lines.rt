@@ -10,17 +10,11 @@ use rules::{Answer, Outcome, Refusal, Signal, Verdict};
 // An index, a kind and a count are at most 65,535.
 const DIGITS: usize = 5;
 
-// the digit 0
-const ZERO: u8 = b'0';
-
-// 10 below the digit `a` of lower hex, which stands for 10
-const BELOW_A: u8 = b'a' - 10;
-
 // the last digit of n
 fn digit(n: usize) -> u8
     ensures { result ≡ 48 + n % 10 }
 {
-    ZERO + (n % 10) as u8
+    b'0' + (n % 10) as u8
 }
 
 // 'lower hex'
@@ -29,9 +23,9 @@ fn hex_digit(value: u8) -> u8
     ensures { result ≡ hex_digit value }
 {
     if value < 10 {
-        ZERO + value
+        b'0' + value
     } else {
-        BELOW_A + value
+        b'a' + (value - 10)
     }
 }
 
