@@ -114,9 +114,9 @@ def functions(crate, file):
     prefix = "" if module in ("lib", "main") else module + "::"
     found, at, type_, now = [], 0, "", None
     for line in source(crate, file).split("\n"):
-        block = re.match(r"impl (\w+)", line)
-        if block:
-            type_ = block[1] + "::"
+        block = re.match(r"impl (?:(\w+)(?:<(\w+)>)? for )?(\w+)", line)
+        if block:  # the functions of `impl TryFrom<u8> for Queues` are those of QueuesTryFromU8, as a check names them
+            type_ = block[3] + (block[1] or "") + (block[2] or "").capitalize() + "::"
         elif line == "}" and (now is None or now[0] != ""):
             type_ = ""
         head = FUNCTION.match(line)
