@@ -17,17 +17,12 @@ use Rattle.trace.specs.Numbers.{most_kept, most_size}
 ---- begun
 
 -- the bytes of what has begun are those that are pending
-module _ (kept : List ℕ) (have n : ℕ) (e : n ≡ cond (is_open kept have) have 0) where
-  pub begun_pending : pending kept have ≡ come kept n
-  begun_pending = by (is_open kept have) refl
-    where
-      by : (t : Bool) → is_open kept have ≡ t → pending kept have ≡ come kept n
-      by true o =
-          ap (λ (y : Bool). cond y (come kept have) []) o ∙ ap (λ (k : ℕ). come kept k) (sym (e ∙ ap (λ (y : Bool). cond y have 0) o))
-      by false o =
-          ap (λ (y : Bool). cond y (come kept have) []) o
-          ∙ sym (come_short kept 0 (omega arith))
-          ∙ ap (λ (k : ℕ). come kept k) (sym (e ∙ ap (λ (y : Bool). cond y have 0) o))
+pub begun_pending : (kept : List ℕ) (have n : ℕ) → n ≡ cond (is_open kept have) have 0 → pending kept have ≡ come kept n
+begun_pending kept have n e = by (is_open kept have) ∙ ap (λ (k : ℕ). come kept k) (sym e)
+  where
+    by : (t : Bool) → cond t (come kept have) [] ≡ come kept (cond t have 0)
+    by true = refl
+    by false = sym (come_short kept 0 (omega arith))
 
 ---- gather
 

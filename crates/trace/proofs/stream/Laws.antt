@@ -1,5 +1,5 @@
 -- One lemma for each way out of the functions of this crate. Assumes nothing.
-use Prim.Native.Nat.{ℕ, zero, suc, ◌+◌, ◌-◌, ◌≤◌, ◌<◌}
+use Prim.Native.Nat.{ℕ, suc, ◌+◌, ◌-◌, ◌≤◌, ◌<◌}
 use native.Mathlib.Omega.{arith}
 use mathlib.Core.Path.{◌≡◌, refl, sym, ap, ap₂, subst, ◌∙◌}
 use mathlib.Core.Bool.{Bool, true, false, ◌||◌, cond}
@@ -14,11 +14,12 @@ use Rattle.rules.specs.Sizes.{Sizes, State}
 use Rattle.rules.specs.Trace.{cut_line, full_line, trace_from}
 use Rattle.port.specs.State.{sizes, get}
 use Rattle.records.specs.lines.Puts.{Prints}
-use Rattle.trace.specs.gathering.Contract.{size_of, is_open, come, pending}
+use Rattle.trace.specs.gathering.Contract.{size_of, is_open, pending}
 use Rattle.trace.specs.stream.Contract.{future, left}
 use Rattle.trace.specs.declared.stream.Stream.{Stream}
 use Rattle.trace.proofs.Rules.{trace_none, trace_full}
 use Rattle.trace.proofs.gathering.Keeping.{pending_long, cut_short}
+use Rattle.trace.proofs.gathering.Laws.{begun_pending}
 use Rattle.trace.specs.Numbers.{most_kept, most_records}
 
 ---- Nothing is printed
@@ -74,10 +75,6 @@ module _ (stream : Stream) (bs ms os kept : List ℕ) where
   pub over : (rest : List ℕ) → stream.done ≡ true → future stream bs ms os kept rest ≡ []
   over rest d = ap (λ (t : Bool). cond t [] (trace_from z (most_records - stream.index) stream.index s (waits ++ rest))) d
 
-  positive : (n : ℕ) → (n ≡ 0 → ⊥) → 0 < n
-  positive zero f = absurd (f refl)
-  positive (suc n) f = omega arith
-
   -- the text at the end of the input
   pub at_end_lem : length kept ≡ most_kept → future stream bs ms os kept [] ≡ left stream kept
   at_end_lem e = by_done stream.done refl
@@ -88,24 +85,21 @@ module _ (stream : Stream) (bs ms os kept : List ℕ) where
       n_rest : length (waits ++ []) ≡ length waits
       n_rest = ap length no_rest
 
-      begun_size : (n : ℕ) → length waits ≡ n → (n ≡ 0 → ⊥) → (waits ≡ come kept n) × (n < size_of kept)
-      begun_size n en zn = by_open (is_open kept stream.have) refl
+      open_below : (n : ℕ) → n ≡ cond (is_open kept stream.have) stream.have 0 → (n ≡ 0 → ⊥) → n < size_of kept
+      open_below n en zn = by_open (is_open kept stream.have) refl en
         where
-          by_open : (t : Bool) → is_open kept stream.have ≡ t → (waits ≡ come kept n) × (n < size_of kept)
-          by_open true o =
-              let eh : stream.have ≡ n = sym (ap (λ (y : Bool). cond y stream.have 0) o) ∙ sym (pending_long kept stream.have) ∙ en in
-              let below : stream.have < size_of kept = ltb-true stream.have (size_of kept) o in
-              (ap (λ (y : Bool). cond y (come kept stream.have) []) o ∙ ap (λ (k : ℕ). come kept k) eh, omega (arith, eh, below))
-          by_open false o = absurd (zn (sym en ∙ pending_long kept stream.have ∙ ap (λ (y : Bool). cond y stream.have 0) o))
+          by_open : (t : Bool) → is_open kept stream.have ≡ t → n ≡ cond t stream.have 0 → n < size_of kept
+          by_open true o eh = omega (arith, ltb-true stream.have (size_of kept) o)
+          by_open false o eh = absurd (zn eh)
 
       by_index : (n : ℕ) → length waits ≡ n → (n ≡ 0 → ⊥) → trace_from z (most_records - stream.index) stream.index s (waits ++ []) ≡ text_at_end stream
       by_index n en zn = ⊎_elim below above (lt_or_le stream.index most_records)
         where
           below : stream.index < most_records → trace_from z (most_records - stream.index) stream.index s (waits ++ []) ≡ text_at_end stream
           below lt =
-              let w = begun_size n en zn in
-              ap₂ (λ (k : ℕ) (y : List ℕ). trace_from z k stream.index s y) (more lt) (no_rest ∙ w.0)
-              ∙ cut_short z (most_records - (stream.index + 1)) stream.index s kept n e (positive n zn) w.1
+              let begun : n ≡ cond (is_open kept stream.have) stream.have 0 = sym en ∙ pending_long kept stream.have in
+              ap₂ (λ (k : ℕ) (y : List ℕ). trace_from z k stream.index s y) (more lt) (no_rest ∙ begun_pending kept stream.have n begun)
+              ∙ cut_short z (most_records - (stream.index + 1)) stream.index s kept n e (omega arith) (open_below n begun zn)
               ∙ sym (ap (λ (t : Bool). cond t (full_line stream.index) (cut_line stream.index)) (lt-leb most_records stream.index lt))
 
           above : most_records ≤ stream.index → trace_from z (most_records - stream.index) stream.index s (waits ++ []) ≡ text_at_end stream
