@@ -9,8 +9,9 @@ loop-k-preserved c =
     let l = c.loop-k in
     let f = c.show_line-shows in
     let a = c.args in
-    showing_next a.x a.line.now.input a.line.now.bytes.now a.line.now.marks.now a.line.now.same_length a.line.now.within
-    f.result f.new.out l.k l.shows t.result l.out t.new.out l.invariant at-loop-test.true t.ensures
+    showing_next a.x a.line.now.input a.line.now.bytes.now a.line.now.marks.now a.line.now.same_length a.line.now.within f.result f.new.out l.k l.shows
+    t.result l.out
+    t.new.out l.invariant at-loop-test.true t.ensures
 
 pub returns : goal.returns
 returns c =

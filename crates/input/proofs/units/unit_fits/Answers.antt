@@ -15,12 +15,12 @@ returns-then-u-n c =
     unit_fits_line a.i a.n c.requires a.line a.u a.canonical _ c.if-canonical.true
     (elim c.if-current-line.branch [
       | then-current-line w ↦ elim c.if-u-line.branch [
-          | then-u-line v ↦ room_left (len - a.i.ready) a.u a.line len a.n (leb-true _ _ (sym v.value-is ∙ w.if-current-line.true)) v.if-u-line.true
-              (leb-true _ _ (sym w.value-is ∙ c.if-u-n.true))
-          | else-u-line v ↦
-              let le = leb-true a.u a.line (sym v.value-is ∙ w.if-current-line.true) in
-              absurd (omega arith)
-        ]
+        | then-u-line v ↦ room_left (len - a.i.ready) a.u a.line len a.n (leb-true _ _ (sym v.value-is ∙ w.if-current-line.true)) v.if-u-line.true
+            (leb-true _ _ (sym w.value-is ∙ c.if-u-n.true))
+        | else-u-line v ↦
+            let le = leb-true a.u a.line (sym v.value-is ∙ w.if-current-line.true) in
+            absurd (omega arith)
+      ]
       | else-current-line w ↦ absurd (false≢true (sym w.if-current-line.false ∙ sym w.value-is ∙ c.if-u-n.true))
     ])
 
@@ -33,11 +33,11 @@ returns-else-u-n c =
     ∙ elim c.if-current-line.branch [
       | then-current-line w ↦ no_room (len - a.i.ready) a.u a.line len a.n (leb-false _ _ (sym w.value-is ∙ c.if-u-n.false))
       | else-current-line w ↦ elim c.if-u-line.branch [
-          | then-u-line v ↦
-              let few = leb-false _ _ (sym v.value-is ∙ w.if-current-line.false) in
-              no_line (len - a.i.ready) a.u a.line _ (omega arith)
-          | else-u-line v ↦ no_line (len - a.i.ready) a.u a.line _ (omega arith)
-        ]
+        | then-u-line v ↦
+            let few = leb-false _ _ (sym v.value-is ∙ w.if-current-line.false) in
+            no_line (len - a.i.ready) a.u a.line _ (omega arith)
+        | else-u-line v ↦ no_line (len - a.i.ready) a.u a.line _ (omega arith)
+      ]
     ])
 
 pub returns-then-u-n-2 : goal.returns-then-u-n-2
