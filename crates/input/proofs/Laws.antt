@@ -4,7 +4,7 @@ use mathlib.Core.Logic.{⊎_elim}
 use mathlib.Core.Bool.{Bool, true, false, ◌&&◌, and-false}
 use mathlib.Core.List.{List, [], ◌∷◌, ◌++◌, map, reverse, append-nil, append_assoc, reverse-cons, reverse-append, reverse-reverse}
 use Prim.Native.Nat.{ℕ, zero, suc, ◌+◌, ◌-◌, ◌*◌, ◌/◌, ◌%◌, ◌<◌, ◌≤◌, min}
-use native.Mathlib.Nat.{mod-mod}
+use native.Mathlib.Nat.{add_assoc, mod-mod}
 use native.Mathlib.Omega.{arith}
 use lib.ListN.{length, get_or, take, drop, length-append, length-take, length-drop, length-reverse, length-map, take-append-drop, drop_of_length-le}
 use lib.Seq.{take_at, drop_at, take-take, take_all}
@@ -389,6 +389,38 @@ added_one i q p bs ms bs' ms' b m room hb hm =
     let pb = pushed i.queue q bs bs' b room.within.head room.room hb in
     let pm = pushed i.queue p ms ms' m (rw (← room.same) room.within.head) (rw (← room.same) room.room) hm in
     record { input = ap (λ (x : Queue). record { queue = x; ready = i.ready; literal = i.literal }) pb.0; bytes = pb.1; marks = pm.1 }
+
+-- two runs of stores, one behind the other
+twice : (l l' l'' b c : List ℕ) (h k n : ℕ) → length b ≡ n → l' ≡ stores (length l) l (h + k) b
+    → l'' ≡ stores (length l') l' (h + (k + n)) c → l'' ≡ stores (length l) l (h + k) (b ++ c)
+twice l l' l'' b c h k n en e f =
+    let N : ℕ = length l in
+    f
+    ∙ ap (λ (x : ℕ). stores x l' (h + (k + n)) c) (ap length e ∙ simp stores_length)
+    ∙ ap (λ (x : List ℕ). stores N x (h + (k + n)) c) e
+    ∙ ap (λ (x : ℕ). stores N (stores N l (h + k) b) x c) (ap (λ (x : ℕ). h + (k + x)) (sym en) ∙ sym (add_assoc h k (length b)))
+    ∙ sym (stores_append N (h + k) l b c)
+
+module _ (i r : Input) (bs ms bs' ms' b m : List ℕ) (g : Grows i bs ms b m r bs' ms') where
+  -- a and then b is both
+  pub grown_twice : (s : Input) (bs'' ms'' c n : List ℕ) → length b ≡ length m → Grows r bs' ms' c n s bs'' ms'' → Grows i bs ms (b ++ c) (m ++ n) s bs'' ms''
+  grown_twice s bs'' ms'' c n e f =
+      let h : ℕ = i.queue.head in
+      let k : ℕ = i.queue.len in
+      let n' : k + length b + length c ≡ k + length (b ++ c) = add_assoc k (length b) (length c) ∙ ap (◌+◌ k) (sym (length-append b c)) in
+      record {
+        input =
+            f.input
+            ∙ ap (λ (x : Input). record { queue = record { head = x.queue.head; len = x.queue.len + length c }; ready = x.ready; literal = x.literal })
+            g.input
+            ∙ ap (λ (x : ℕ). record { queue = record { head = h; len = x }; ready = i.ready; literal = i.literal }) n';
+        bytes =
+            twice bs bs' bs'' b c h k (length b) refl g.bytes
+            (f.bytes ∙ ap (λ (x : Input). stores (length bs') bs' (x.queue.head + x.queue.len) c) g.input);
+        marks =
+            twice ms ms' ms'' m n h k (length b) (sym e) g.marks
+            (f.marks ∙ ap (λ (x : Input). stores (length ms') ms' (x.queue.head + x.queue.len) n) g.input);
+      }
 
 ---- store, end, end_of_file
 
