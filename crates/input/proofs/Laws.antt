@@ -14,7 +14,7 @@ use Rattle.queue.specs.Ring.{ring, stores}
 use Rattle.queue.specs.Queue.{held, appended, Holds, fitted as queue_fitted}
 use Rattle.queue.specs.declared.Queue.{Queue}
 use Rattle.queue.proofs.Rings.{lt_or_le, stores_length, ring_length, ring_mod, take_ring}
-use Rattle.queue.proofs.Laws.{put_append, held_length, held_fitted, held_laid, holds_room}
+use Rattle.queue.proofs.Laws.{stores_append, put_append, held_length, held_fitted, held_laid, holds_room}
 use Rattle.rules.specs.Sizes.{Place, Input as Ruled, used}
 use Rattle.rules.specs.Settings.{stored}
 use Rattle.rules.specs.Fit.{kept_in}
