@@ -1,14 +1,14 @@
 // Document 01, 'Reads', for every value of port and slices: what a read finds it takes, or it waits; and cancel. A read is lent no slice of the
 // output.
 ghost use Rattle.std.specs.Prelude.{◌≡◌, []};
-ghost use Rattle.input.specs.Contract.{Sound};
 ghost use Rattle.port.specs.Layers.{assembled};
 ghost use Rattle.discipline.specs.reads.Contract.{ReadsBy, done, «finds», Reads};
 ghost use Rattle.port.specs.Calls.{step_of, cancelled};
 ghost use Rattle.rules.specs.Reads as rule;
 
-use input::{Input, reading};
+use input::{Input, Places, reading};
 use port::{Answered, Port};
+use queue::Counted;
 use rules::{Call, Outcome, Refusal, Settings, Waiting};
 
 // the port with another input and another waiting read
@@ -19,18 +19,15 @@ fn with_read(p: Port, input: Input, waiting: Waiting) -> Port
 }
 
 // The read is done: no read waits any more.
-fn finish(p: Port, i: Input, bytes: &[u8], marks: &[u8], dst: &mut [u8]) -> Answered
-    requires { Sound i bytes.now marks.now }
-    ensures { ReadsBy done p i bytes.now marks.now dst.old result dst.new }
+fn finish(p: Port, places: &Places, dst: &mut [u8]) -> Answered
+    ensures { ReadsBy done p places.now.input places.now.bytes.now places.now.marks.now dst.old result dst.new }
 {
-    if p.settings.icanon {
-        let taken = reading::read_line(i, bytes, marks, dst);
-        let left = taken.rest;
-        return port::says(with_read(p, left, Waiting::Idle), Outcome::Ok, taken.count);
-    }
-    let taken = reading::read_bytes(i, bytes, dst);
-    let left = taken.rest;
-    port::says(with_read(p, left, Waiting::Idle), Outcome::Ok, taken.count)
+    let Counted { rest, count } = if p.settings.icanon {
+        reading::read_line(places.input, places.bytes, places.marks, dst)
+    } else {
+        reading::read_bytes(places.input, places.bytes, dst)
+    };
+    port::says(with_read(p, rest, Waiting::Idle), Outcome::Ok, count)
 }
 
 // A read of n bytes finds what it asks for where so many places are finished.
@@ -46,56 +43,40 @@ fn finds(x: Settings, finished: usize, w: Waiting, n: usize) -> bool
 
 // 'Non-blocking takes that at once .. or gives refusal 3 if no byte is stored; canonical, if no line is finished. Otherwise the
 // answer is "wait".'
-fn ruled(
-    p: Port,
-    i: Input,
-    bytes: &[u8],
-    marks: &[u8],
-    dst: &mut [u8],
-    nonblocking: bool,
-) -> Answered
-    requires { Sound i bytes.now marks.now }
-    ensures { ReadsBy (λ s n. rule.ruled s nonblocking n) p i bytes.now marks.now dst.old result dst.new }
+fn ruled(p: Port, places: &Places, dst: &mut [u8], nonblocking: bool) -> Answered
+    ensures { ReadsBy (λ s n. rule.ruled s nonblocking n) p places.now.input places.now.bytes.now places.now.marks.now dst.old result dst.new }
 {
     let n = dst.len();
     if nonblocking {
-        if i.ready == 0 {
-            return port::refuses(p, Refusal::Nothing);
+        if places.input.ready == 0 {
+            port::refuses(p, Refusal::Nothing)
+        } else {
+            finish(p, places, dst)
         }
-        return finish(p, i, bytes, marks, dst);
+    } else if finds(p.settings, places.input.ready, p.waiting, n) {
+        finish(p, places, dst)
+    } else {
+        let begun = waiting::begins(p.settings, places.input.ready, n);
+        let waits = waiting::waits(begun, p.waiting);
+        port::says(with_read(p, places.input, waits), Outcome::Wait, 0)
     }
-    if finds(p.settings, i.ready, p.waiting, n) {
-        return finish(p, i, bytes, marks, dst);
-    }
-    let begun = waiting::begins(p.settings, i.ready, n);
-    let waits = waiting::waits(begun, p.waiting);
-    port::says(with_read(p, i, waits), Outcome::Wait, 0)
 }
 
 // 'A read on a hung-up port answers 0 bytes and ends any waiting read; otherwise 4, then length 0 (answers 0, takes nothing),
 // then the rules below.'
-fn ordered(
-    p: Port,
-    i: Input,
-    bytes: &[u8],
-    marks: &[u8],
-    dst: &mut [u8],
-    nonblocking: bool,
-) -> Answered
-    requires { Sound i bytes.now marks.now }
-    ensures { ReadsBy (λ s n. rule.read s nonblocking n) p i bytes.now marks.now dst.old result dst.new }
+fn ordered(p: Port, places: &Places, dst: &mut [u8], nonblocking: bool) -> Answered
+    ensures { ReadsBy (λ s n. rule.read s nonblocking n) p places.now.input places.now.bytes.now places.now.marks.now dst.old result dst.new }
 {
     let n = dst.len();
     if p.hung {
-        return port::says(with_read(p, i, Waiting::Idle), Outcome::Ok, 0);
+        port::says(with_read(p, places.input, Waiting::Idle), Outcome::Ok, 0)
+    } else if waiting::clashes(p.waiting, nonblocking, n) {
+        port::refuses(p, Refusal::ReadWaits)
+    } else if n == 0 {
+        port::says(with_read(p, places.input, p.waiting), Outcome::Ok, 0)
+    } else {
+        ruled(p, places, dst, nonblocking)
     }
-    if waiting::clashes(p.waiting, nonblocking, n) {
-        return port::refuses(p, Refusal::ReadWaits);
-    }
-    if n == 0 {
-        return port::says(with_read(p, i, p.waiting), Outcome::Ok, 0);
-    }
-    ruled(p, i, bytes, marks, dst, nonblocking)
 }
 
 // as many bytes as dst has
@@ -103,8 +84,12 @@ pub fn read(p: Port, bytes: &[u8], marks: &[u8], dst: &mut [u8], nonblocking: bo
     ensures { Reads p bytes.now marks.now dst.old nonblocking result dst.new }
 {
     let n = bytes.len().min(marks.len());
-    let fitted = p.input.fit(n);
-    ordered(p, fitted, &bytes[..n], &marks[..n], dst, nonblocking)
+    let places = Places {
+        input: p.input.fit(n),
+        bytes: &bytes[..n],
+        marks: &marks[..n],
+    };
+    ordered(p, &places, dst, nonblocking)
 }
 
 // 'Cancel ends a waiting read and moves nothing.'

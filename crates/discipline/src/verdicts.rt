@@ -18,10 +18,11 @@ pub fn foreground(p: Port, group: u32, orphaned: bool) -> Answered
     ensures { result ≡ grouped p (step_of p [] [] [] (Call.Foreground group orphaned) []) }
 {
     if jobs::too_large(group) {
-        return port::refuses(p, Refusal::OutOfRange); // 'a group above 2,147,483,647'
+        port::refuses(p, Refusal::OutOfRange) // 'a group above 2,147,483,647'
+    } else {
+        let foreground = jobs::group_of(group, orphaned);
+        port::says(with_group(p, foreground), Outcome::Ok, 0)
     }
-    let foreground = jobs::group_of(group, orphaned);
-    port::says(with_group(p, foreground), Outcome::Ok, 0)
 }
 
 // Refusal 2: 'a group above 2,147,483,647, or a process group of 0 in a verdict'.

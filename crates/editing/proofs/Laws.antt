@@ -13,7 +13,7 @@ use Rattle.queue.specs.Queue.{held}
 use Rattle.rules.specs.Sizes.{Place}
 use Rattle.rules.specs.Editing.{joined, units, places_of, without_units, trailing, Edit, removed, edited}
 use Rattle.rules.specs.declared.Settings.{Settings}
-use Rattle.input.specs.Contract.{all, get, line_to, shortened, Within, InputBecomes}
+use Rattle.input.specs.Contract.{all, get, line_to, shortened, Within, Sound, InputBecomes}
 use Rattle.input.specs.declared.Input.{Input}
 use Rattle.input.proofs.Laws.{line_whole, cut_becomes, all_long, all_at}
 use Rattle.editing.specs.Contract.{place_at, places_in, units_to, Line, Starts, Cuts, Removes}
@@ -177,10 +177,8 @@ module _ (i : Input) (bs ms : List ℕ) (end : ℕ) (test : List Place → Bool)
     pub walk_end : Within i (length ms) → at ≤ i.ready → Cuts i bs ms end (trailing test (units_to i bs ms end)) (record { at = at; units = n })
     walk_end h le = walk_done (ap (trailing test) (units_none i bs ms e h at le))
 
-pub within_both : (i : Input) (bs ms : List ℕ) → length bs ≡ length ms → Within i (length ms) → Within i (length bs)
-within_both i bs ms e h = rw e h
-
----- one
+pub within_marks : (i : Input) (bs ms : List ℕ) → Sound i bs ms → Within i (length ms)
+within_marks i bs ms h = rw (← h.same) h.within
 
 ---- last_unit, whole_line
 

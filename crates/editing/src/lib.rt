@@ -4,7 +4,6 @@
 #![tactic(auto)]
 
 mod classes;
-mod line;
 pub mod reprinting;
 pub mod words;
 
@@ -41,10 +40,11 @@ pub(crate) fn one(i: Input, marks: &[u8], end: usize) -> Run
     ensures { CutsOne i marks.now end result }
 {
     if end <= i.ready {
-        return Run { at: end, units: 0 };
+        Run { at: end, units: 0 }
+    } else {
+        let at = unit_start(i, marks, end);
+        Run { at, units: 1 }
     }
-    let at = unit_start(i, marks, end);
-    Run { at, units: 1 }
 }
 
 // 'ERASE removes the last unit of the current line'
@@ -60,16 +60,13 @@ pub fn whole_line(i: Input, marks: &[u8]) -> Run
     requires { Within i (length marks.now) }
     ensures { RemovesBy length i marks.now result }
 {
-    let mut begin = i.queue.len;
-    let mut count = 0;
-    while begin > i.ready {
-        begin = unit_start(i, marks, begin);
-        count += 1;
+    let mut at = i.queue.len;
+    let mut units = 0;
+    while at > i.ready {
+        at = unit_start(i, marks, at);
+        units += 1;
     }
-    Run {
-        at: begin,
-        units: count,
-    }
+    Run { at, units }
 }
 
 // place k begins a unit of the current line that is not silent: REPRINT shows its byte

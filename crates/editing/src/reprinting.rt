@@ -7,60 +7,59 @@ ghost use Rattle.output.specs.Contract.{Echoes};
 ghost use Rattle.output.specs.columns.Contract.{ExtendsBy};
 ghost use Rattle.editing.specs.reprinting.Contract.{place_echo, reprinted, needed, MeasuresLine};
 
-use super::line::Line;
-use input::Input;
+use input::{Input, Places};
 use output::Output;
 use output::columns::Measure;
 use rules::Settings;
 
 // what place k shows, behind what is measured, if it fits
-fn measured(measure: Measure, x: Settings, line: &Line, k: usize) -> Option<Measure>
-    ensures { ExtendsBy x measure (place_echo x line.now.input line.now.bytes.now line.now.marks.now k) result }
+fn measured(measure: Measure, x: Settings, places: &Places, k: usize) -> Option<Measure>
+    ensures { ExtendsBy x measure (place_echo x places.now.input places.now.bytes.now places.now.marks.now k) result }
 {
-    if super::is_shown(line.input, line.marks, k) {
-        echo::measured(measure, x, line.input.queue.at(line.bytes, k))
+    if super::is_shown(places.input, places.marks, k) {
+        echo::measured(measure, x, places.input.queue.at(places.bytes, k))
     } else {
         Some(measure)
     }
 }
 
 // the echo of b, 10 and what the line shows, measured in so many bytes, if they fit
-fn line_measured(o: Output, x: Settings, line: &Line, size: usize, b: u8) -> Option<Measure>
-    ensures { MeasuresLine x o line.now.input line.now.bytes.now line.now.marks.now size b result }
+fn line_measured(o: Output, x: Settings, places: &Places, size: usize, b: u8) -> Option<Measure>
+    ensures { MeasuresLine x o places.now.input places.now.bytes.now places.now.marks.now size b result }
 {
     let mut measure = echo::measured(o.measure(size), x, b)?.and(x, 10)?;
-    for k in line.input.ready..line.input.queue.len {
-        measure = measured(measure, x, line, k)?;
+    for k in places.input.ready..places.input.queue.len {
+        measure = measured(measure, x, places, k)?;
     }
     Some(measure)
 }
 
 // whether the echo of b, 10 and what the line shows fit in so many bytes
-fn fits(o: Output, x: Settings, line: &Line, size: usize, b: u8) -> bool
-    ensures { result ≡ leb (needed x o line.now.input line.now.bytes.now line.now.marks.now size b) size }
+fn fits(o: Output, x: Settings, places: &Places, size: usize, b: u8) -> bool
+    ensures { result ≡ leb (needed x o places.now.input places.now.bytes.now places.now.marks.now size b) size }
 {
-    line_measured(o, x, line, size, b).is_some()
+    line_measured(o, x, places, size, b).is_some()
 }
 
 // what place k shows, behind what is queued
-fn shown(o: Output, x: Settings, line: &Line, out: &mut [u8], k: usize) -> Output
-    ensures { Echoes x o out.old (place_echo x line.now.input line.now.bytes.now line.now.marks.now k) result out.new }
+fn shown(o: Output, x: Settings, places: &Places, out: &mut [u8], k: usize) -> Output
+    ensures { Echoes x o out.old (place_echo x places.now.input places.now.bytes.now places.now.marks.now k) result out.new }
 {
-    if super::is_shown(line.input, line.marks, k) {
-        echo::show(o, x, out, line.input.queue.at(line.bytes, k))
+    if super::is_shown(places.input, places.marks, k) {
+        echo::show(o, x, out, places.input.queue.at(places.bytes, k))
     } else {
         o.fit(out.len())
     }
 }
 
 // the echo of b, 10 and what the line shows, for which there is room
-fn shown_line(o: Output, x: Settings, line: &Line, out: &mut [u8], b: u8) -> Output
-    requires { needed x o line.now.input line.now.bytes.now line.now.marks.now (length out.old) b ≤ length out.old }
-    ensures { Echoes x o out.old (reprinted x line.now.input line.now.bytes.now line.now.marks.now b line.now.input.queue.len) result out.new }
+fn shown_line(o: Output, x: Settings, places: &Places, out: &mut [u8], b: u8) -> Output
+    requires { needed x o places.now.input places.now.bytes.now places.now.marks.now (length out.old) b ≤ length out.old }
+    ensures { Echoes x o out.old (reprinted x places.now.input places.now.bytes.now places.now.marks.now b places.now.input.queue.len) result out.new }
 {
     let mut shows = echo::show_line(o, x, out, b);
-    for k in line.input.ready..line.input.queue.len {
-        shows = shown(shows, x, line, out, k);
+    for k in places.input.ready..places.input.queue.len {
+        shows = shown(shows, x, places, out, k);
     }
     shows
 }
@@ -80,13 +79,13 @@ pub fn of_reprinted(
     ensures { Echoes x o out.old (edit_echo x reprint b 0 (units (get i bytes.now marks.now).current)) result out.new }
 {
     let n = out.len();
-    let line = Line {
+    let places = Places {
         input: i,
         bytes,
         marks,
     };
-    if x.echo && fits(o, x, &line, n, b) {
-        shown_line(o, x, &line, out, b)
+    if x.echo && fits(o, x, &places, n, b) {
+        shown_line(o, x, &places, out, b)
     } else {
         o.fit(n)
     }

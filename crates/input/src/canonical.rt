@@ -3,7 +3,7 @@ ghost use Rattle.input.specs.Contract.{Sound, Within};
 ghost use Rattle.input.specs.canonical.Contract.{GoesOff, GoesOn, in_line};
 ghost use Rattle.std.specs.Prelude.{◌≡◌, length};
 
-use super::{END_OF_FILE, Input, has};
+use super::{END_OF_FILE, ENDS, Input, has};
 use queue::Queue;
 
 // 'if ICANON goes off, all stored bytes become readable and end-of-file marks vanish'
@@ -49,5 +49,5 @@ fn in_line(m: u8, last: bool) -> u8
     ensures { result ≡ in_line last m }
 {
     let keep = m % 2 + m / 8 % 2 * 8;
-    if last { keep + 2 } else { keep }
+    if last { keep + ENDS } else { keep }
 }

@@ -9,7 +9,7 @@ pub mod units;
 
 ghost use Rattle.std.specs.Prelude.{◌≡◌, ◌<◌, ◌%◌, ◌/◌, eqb, false, [], ◌∷◌};
 ghost use Rattle.queue.specs.Queue.{laid};
-ghost use Rattle.input.specs.Contract.{put, Within, fitted, shortened, emptied, Room, Grows};
+ghost use Rattle.input.specs.Contract.{put, Within, fitted, shortened, emptied, Sound, Room, Grows};
 
 use queue::Queue;
 
@@ -18,6 +18,15 @@ pub struct Input {
     pub queue: Queue,
     pub ready: usize,
     pub literal: bool,
+}
+
+// Stored input with the slices that it is lent, of one length, its numbers in range.
+#[derive(Clone, Copy)]
+pub struct Places<'a> {
+    pub input: Input,
+    pub bytes: &'a [u8],
+    pub marks: &'a [u8],
+    pub ghost sound: { Sound input bytes.now marks.now },
 }
 
 // The mark byte of a place, bit by bit; further bits mean nothing.

@@ -10,11 +10,11 @@ use super::{END_OF_FILE, ENDS, Input, SILENT, STARTS, Unit};
 use rules::Settings;
 
 // The marks of a delimiter, of an end-of-file mark, of the first place of a silent unit; and of a place in a unit.
-const DELIMITER: u8 = STARTS + ENDS;
+const DELIMITER: u8 = STARTS | ENDS;
 
-const MARK: u8 = STARTS + ENDS + END_OF_FILE;
+const MARK: u8 = STARTS | ENDS | END_OF_FILE;
 
-const SILENT_START: u8 = STARTS + SILENT;
+const SILENT_START: u8 = STARTS | SILENT;
 
 const WITHIN: u8 = 0;
 

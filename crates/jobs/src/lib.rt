@@ -49,7 +49,7 @@ pub fn reported(signal: Signal, foreground: Option<Group>) -> Outcome
 fn in_foreground(foreground: Option<Group>, group: u32) -> bool
     ensures { result ≡ rule.in_foreground foreground group }
 {
-    foreground.is_some_and(|g| g.number == group)
+    foreground.is_some_and(|front| front.number == group)
 }
 
 // 'Not the controlling terminal, or in the foreground group'

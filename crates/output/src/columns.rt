@@ -4,8 +4,7 @@ ghost use Rattle.rules.specs.Output.{capped, moved, column_after, columns_after}
 ghost use Rattle.output.specs.columns.Contract.{Extends, ExtendsBy};
 ghost use Rattle.output.specs.expansion.Contract.{expanded_bytes};
 
-use super::expansion;
-use super::expansion::Expansion;
+use super::expansion::{self, Expansion};
 use rules::Settings;
 
 // 'A result above 65,535 becomes 65,528.'
@@ -27,7 +26,7 @@ fn cap(column: u64) -> u32
 fn moved(x: Settings, c: u32, b: u8) -> u64
     ensures { result ≡ moved x c b }
 {
-    let wide = c as u64;
+    let wide = u64::from(c);
     match b {
         13 => 0,
         8 => wide.saturating_sub(1),

@@ -140,10 +140,6 @@ module _ (p : Port) (bs ms os : List ℕ) where
   unfolding get
   here = ranged_state p (place_bytes bs ms) (place_marks bs ms) os (both_long bs ms)
 
--- the answer by another name
-pub asks_as : (p : Port) (bs ms os : List ℕ) (v w : State × Reply) (a : Answered) → v ≡ w → Asks p bs ms os v a → Asks p bs ms os w a
-asks_as p bs ms os v w a e h = subst (λ (y : State × Reply). Asks p bs ms os y a) e h
-
 ---- A call that writes no slice
 
 module _ (p : Port) (bs ms os : List ℕ) (q : Port) (n : ℕ) (en : n ≡ capacity bs ms) (eq : q ≡ ranged p n (length os)) where

@@ -1,5 +1,5 @@
 // Document 01, 'Received events': what an event comes to, by the settings.
-ghost use Rattle.std.specs.Prelude.{◌≡◌};
+ghost use Rattle.std.specs.Prelude.{◌≡◌, cond};
 ghost use Rattle.received.specs.arrival.Arrival.{broken_of, parity_of, break_of, hangup_of, arrival_of};
 
 use input::Unit;
@@ -17,16 +17,25 @@ pub(crate) enum Arrival {
     Hangup,
 }
 
+// 'PARMRK stores 255,0,X; else 0.'
+fn marked(x: Settings, b: u8) -> Arrival
+    ensures { result ≡ cond x.parmrk (Arrival.Silent (Unit.Broken b)) (Arrival.Silent Unit.Zero) }
+{
+    Arrival::Silent(if x.parmrk {
+        Unit::Broken(b)
+    } else {
+        Unit::Zero
+    })
+}
+
 // 'IGNPAR drops; else PARMRK stores 255,0,X; else 0.'
 fn broken(x: Settings, b: u8) -> Arrival
     ensures { result ≡ broken_of x b }
 {
     if x.ignpar {
         Arrival::Nothing
-    } else if x.parmrk {
-        Arrival::Silent(Unit::Broken(b))
     } else {
-        Arrival::Silent(Unit::Zero)
+        marked(x, b)
     }
 }
 
@@ -49,10 +58,8 @@ fn breaks(x: Settings) -> Arrival
         Arrival::Nothing
     } else if x.brkint {
         Arrival::Interrupt
-    } else if x.parmrk {
-        Arrival::Silent(Unit::Broken(0))
     } else {
-        Arrival::Silent(Unit::Zero)
+        marked(x, 0)
     }
 }
 

@@ -1,7 +1,7 @@
 // Document 01, 'The trace program': the line printed for a record, and the lines `cut` and `full`, which end a trace: bytes, words,
 // decimal numbers and lower hex laid one after the other into a buffer.
 ghost use Rattle.std.specs.Prelude.{◌≡◌, [], ◌∷◌, ◌++◌, ◌+◌, ◌%◌, ◌<◌};
-ghost use Rattle.rules.specs.Trace.{digits, decimal, hex_digit, hex_or_dash, cut_line, full_line, text, signal_word, verdict_word, outcome_word};
+ghost use Rattle.rules.specs.Trace.{digits, decimal, hex_digit, hex_or_dash, cut_line, full_line, signal_word, verdict_word, outcome_word};
 ghost use Rattle.records.specs.lines.Puts.{Prints};
 ghost use Rattle.records.specs.lines.Lines.{refusal_word, line_of, Lays};
 

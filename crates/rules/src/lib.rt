@@ -1,8 +1,8 @@
 // The public types that code and rules share, with document 01's names. Nothing here does anything.
-// 'Settings': the flags by bit, 0 to 31; the special characters in their order; MIN and TIME.
 
 #![tactic(auto)]
 
+// 'Settings': the flags by bit, 0 to 31; the special characters in their order; MIN and TIME.
 #[derive(Clone, Copy)]
 pub struct Settings {
     pub ignbrk: bool,
@@ -93,7 +93,7 @@ pub enum Call {
     SettingsVerdict(Process),
 }
 
-#[derive(Clone, Copy, PartialEq, Eq)]
+#[derive(Clone, Copy)]
 pub enum Signal {
     Int,
     Quit,

@@ -11,7 +11,7 @@ ghost use Rattle.trace.specs.Numbers.{most_lent};
 
 use port::{Answered, Port};
 use records::lines;
-use rules::{Answer, Call, Outcome, Refusal};
+use rules::{Answer, Call, Refusal};
 
 // No call is lent more bytes than a transmit.
 const LENT: usize = records::MOST_SENT;
@@ -63,12 +63,10 @@ fn carry(
     ensures { Carries p bytes.old marks.old out.old kind body.now lent.old result bytes.new marks.new out.new lent.new }
 {
     let Some(asked) = records::decode(kind, body) else {
+        let Answered { port, answer } = port::refuses(p, Refusal::OutOfRange);
         return Carried {
-            port: p,
-            answer: Answer {
-                outcome: Outcome::Refused(Refusal::OutOfRange),
-                count: 0,
-            },
+            port,
+            answer,
             given: 0,
         };
     };

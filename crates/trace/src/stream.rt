@@ -57,7 +57,7 @@ impl Stream {
     }
 }
 
-// the next bytes of the input, up to the end of a record
+// what the next bytes of the input come to, up to the end of a record
 fn take_in(stream: Stream, kept: &mut [u8; Stream::KEPT], piece: &[u8], line: &mut [u8]) -> Taken
     ensures { TakesIn stream kept.old piece.now line.old result kept.new line.new }
 {

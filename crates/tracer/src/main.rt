@@ -7,9 +7,9 @@ ghost use Rattle.std.specs.Prelude.{IfOk};
 ghost use Rattle.trace.specs.stream.Pieces.{Passes};
 
 use port::Port;
-use std::io;
 use std::io::Read;
 use std::process::ExitCode;
+use std::{fmt, io};
 use trace::stream;
 use trace::stream::Stream;
 
@@ -39,9 +39,25 @@ fn pass<R: Print>(
 // as many bytes as are asked for at once
 const BUFFER: usize = 65536;
 
-// Pieces of the input are passed until all is done or the input at its end, and the last line is written; or what failed, and why.
+// What failed, and why.
+#[derive(Drop)]
+enum Failure {
+    Read(io::Error),
+    Write(io::Error),
+}
+
+impl fmt::Display for Failure {
+    fn fmt<W: fmt::Write>(&self, f: &mut fmt::Formatter<W>) -> fmt::Result {
+        match self {
+            Failure::Read(error) => write!(f, "read: {error}"),
+            Failure::Write(error) => write!(f, "write: {error}"),
+        }
+    }
+}
+
+// Pieces of the input are passed until all is done or the input at its end, and the last line is written; or it says what failed.
 // A proved loop has to end, and nothing says that the input does: the turns are counted up to a number that no run reaches.
-fn run(rt: &HostRuntime) -> Result<(), (&'static str, io::Error)> {
+fn run(rt: &HostRuntime) -> Result<(), Failure> {
     let mut bytes = [0u8; Port::INPUT];
     let mut marks = [0u8; Port::INPUT];
     let mut out = [0u8; Port::OUTPUT];
@@ -53,7 +69,7 @@ fn run(rt: &HostRuntime) -> Result<(), (&'static str, io::Error)> {
         if stream.done {
             break;
         }
-        let n = input.read(&mut buf).map_err(|e| ("read", e))?;
+        let n = input.read(&mut buf).map_err(Failure::Read)?;
         if n == 0 {
             break;
         }
@@ -66,19 +82,19 @@ fn run(rt: &HostRuntime) -> Result<(), (&'static str, io::Error)> {
             &mut kept,
             &buf[..n],
         )
-        .map_err(|e| ("write", e))?;
+        .map_err(Failure::Write)?;
     }
     let mut line = [0u8; Stream::LINE];
     let n = stream::finish(stream, &kept, &mut line);
-    rt.write_all(&line[..n]).map_err(|e| ("write", e))
+    rt.write_all(&line[..n]).map_err(Failure::Write)
 }
 
 // What failed and why goes to standard error.
 fn main(rt: HostRuntime) -> ExitCode {
     match run(&rt) {
         Ok(()) => ExitCode::SUCCESS,
-        Err((what, error)) => {
-            let _ = eprintln!(rt; "{what}: {error}");
+        Err(failure) => {
+            let _ = eprintln!(rt; "{failure}");
             ExitCode::FAILURE
         }
     }

@@ -23,10 +23,10 @@ use Rattle.output.specs.declared.columns.Measure.{Measure}
 use Rattle.output.specs.declared.Output.{Output}
 use Rattle.output.proofs.Laws.{becomes, get_after, get_length, column_after_lem, same_size, range_len, twice, whole_fits, full_of}
 use Rattle.echo.proofs.Laws.{shows_as, shows_none}
-use Rattle.input.specs.Contract.{get as input, Within}
+use Rattle.input.specs.Contract.{get as input, Within, Sound}
 use Rattle.input.specs.declared.Input.{Input}
 use Rattle.editing.specs.Contract.{units_to, shows_at}
-use Rattle.editing.proofs.Laws.{units_none, units_whole}
+use Rattle.editing.proofs.Laws.{units_none, units_whole, within_marks}
 use Rattle.editing.proofs.Shown.{echo_next}
 use Rattle.editing.specs.reprinting.Contract.{place_echo, reprinted, needed}
 use Rattle.output.proofs.Run.{got_column}
@@ -82,25 +82,25 @@ runs_more x o p r l m n a e le f s =
 
 ---- The line
 
-module _ (x : Settings) (i : Input) (bs ms : List ℕ) (e : length bs ≡ length ms) (h : Within i (length ms)) (b : ℕ) where
+module _ (x : Settings) (i : Input) (bs ms : List ℕ) (h : Sound i bs ms) (b : ℕ) where
   reprinted_next : (k : ℕ) → i.ready ≤ k → k < i.queue.len → reprinted x i bs ms b (k + 1) ≡ reprinted x i bs ms b k ++ place_echo x i bs ms k
   unfolding reprinted
   reprinted_next k le lt =
-      ap (◌++◌ (visible x b ++ (10 ∷ []))) (echo_next x i bs ms k e h le lt)
+      ap (◌++◌ (visible x b ++ (10 ∷ []))) (echo_next x i bs ms k h.same (within_marks i bs ms h) le lt)
       ∙ sym (append_assoc (visible x b ++ (10 ∷ [])) (line_echo x (units_to i bs ms k)) (place_echo x i bs ms k))
 
   reprinted_first : visible x b ++ (10 ∷ []) ≡ reprinted x i bs ms b i.ready
   unfolding reprinted
   reprinted_first =
       sym
-      (ap (λ (us : List (List Place)). (visible x b ++ (10 ∷ [])) ++ line_echo x us) (units_none i bs ms e h i.ready (omega arith))
+      (ap (λ (us : List (List Place)). (visible x b ++ (10 ∷ [])) ++ line_echo x us) (units_none i bs ms h.same (within_marks i bs ms h) i.ready (omega arith))
       ∙ append_nil (visible x b ++ (10 ∷ [])))
 
   reprinted_all : reprinted x i bs ms b i.queue.len ≡ edit_shows x reprint b 0 (units (input i bs ms).current)
   unfolding reprinted
   reprinted_all =
       append_assoc (visible x b) (10 ∷ []) (line_echo x (units_to i bs ms i.queue.len))
-      ∙ ap (λ (us : List (List Place)). visible x b ++ 10 ∷ line_echo x us) (units_whole i bs ms e h)
+      ∙ ap (λ (us : List (List Place)). visible x b ++ 10 ∷ line_echo x us) (units_whole i bs ms h.same (within_marks i bs ms h))
 
   -- what the line before place k shows takes no more room than all of it
   part_from : (c d k : ℕ) → k + d ≡ i.queue.len → i.ready ≤ k
@@ -121,27 +121,27 @@ module _ (x : Settings) (i : Input) (bs ms : List ℕ) (e : length bs ≡ length
 
 ---- line_measured, fits
 
-module _ (x : Settings) (i : Input) (bs ms : List ℕ) (e : length bs ≡ length ms) (h : Within i (length ms)) (b room c : ℕ) where
+module _ (x : Settings) (i : Input) (bs ms : List ℕ) (h : Sound i bs ms) (b room c : ℕ) where
   -- one place more
   pub measured_next : (k : ℕ) (m : Measure) (r : Option Measure) → i.ready ≤ k → k < i.queue.len → Behind x room c (reprinted x i bs ms b k) m
       → ExtendsBy x m (place_echo x i bs ms k) r → Measures x room c (reprinted x i bs ms b (k + 1)) r
   measured_next k m r le lt w s =
-      subst (λ (l : List ℕ). Measures x room c l r) (sym (reprinted_next x i bs ms e h b k le lt)) (s room c (reprinted x i bs ms b k) w)
+      subst (λ (l : List ℕ). Measures x room c l r) (sym (reprinted_next x i bs ms h b k le lt)) (s room c (reprinted x i bs ms b k) w)
 
   -- what does not fit before place k, does not fit with the places from it on
   pub measured_past : (k : ℕ) → i.ready ≤ k → k ≤ i.queue.len → Measures x room c (reprinted x i bs ms b k) None
       → Measures x room c (reprinted x i bs ms b i.queue.len) None
-  measured_past k lo hi lt = omega (arith, part_from x i bs ms e h b c (i.queue.len - k) k (omega arith) lo)
+  measured_past k lo hi lt = omega (arith, part_from x i bs ms h b c (i.queue.len - k) k (omega arith) lo)
 
   -- before the line's first place
   pub measured_first : (own : Measure) (r : Option Measure) → Behind x room c (visible x b) own → Extends x own 10 r
       → Measures x room c (reprinted x i bs ms b i.ready) r
-  measured_first own r w s = subst (λ (l : List ℕ). Measures x room c l r) (reprinted_first x i bs ms e h b) (s room c (visible x b) w)
+  measured_first own r w s = subst (λ (l : List ℕ). Measures x room c l r) (reprinted_first x i bs ms h b) (s room c (visible x b) w)
 
   pub own_past : Measures x room c (visible x b) None → Measures x room c (reprinted x i bs ms b i.queue.len) None
   own_past lt =
-      let line = ap (λ (l : List ℕ). length (processed x c l)) (reprinted_first x i bs ms e h b) in
-      measured_past i.ready (omega arith) h.ready (omega (arith, processed_part x c (visible x b) (10 ∷ [])))
+      let line = ap (λ (l : List ℕ). length (processed x c l)) (reprinted_first x i bs ms h b) in
+      measured_past i.ready (omega arith) h.within.ready (omega (arith, processed_part x c (visible x b) (10 ∷ [])))
 
 -- what is measured in the room that is left, fits
 pub fits_if : (x : Settings) (i : Input) (bs ms : List ℕ) (o : Output) (size b : ℕ) (r : Option Measure)
@@ -158,7 +158,7 @@ pub record Showing (x : Settings) (i : Input) (bs ms : List ℕ) (p₀ : Output)
   pub so : (o : Output) (l : List ℕ) (b : ℕ) → needed x o i bs ms (length l) b ≤ length l
       → Runs x o l (reprinted x i bs ms b i.ready) p₀ l₀ → Runs x o l (reprinted x i bs ms b k) p m
 
-module _ (x : Settings) (i : Input) (bs ms : List ℕ) (e : length bs ≡ length ms) (h : Within i (length ms)) (p₀ : Output) (l₀ : List ℕ) where
+module _ (x : Settings) (i : Input) (bs ms : List ℕ) (h : Sound i bs ms) (p₀ : Output) (l₀ : List ℕ) where
   pub showing_next : (k : ℕ) (p r : Output) (m n : List ℕ) → Showing x i bs ms p₀ l₀ k p m → k < i.queue.len → Echoes x p m (place_echo x i bs ms k) r n
       → Showing x i bs ms p₀ l₀ (k + 1) r n
   showing_next k p r m n a lt s =
@@ -167,9 +167,9 @@ module _ (x : Settings) (i : Input) (bs ms : List ℕ) (e : length bs ≡ length
         high = omega arith;
         so =
             λ o l b le w.
-            let more : reprinted x i bs ms b (k + 1) ≡ reprinted x i bs ms b k ++ place_echo x i bs ms k = reprinted_next x i bs ms e h b k a.low lt in
+            let more : reprinted x i bs ms b (k + 1) ≡ reprinted x i bs ms b k ++ place_echo x i bs ms k = reprinted_next x i bs ms h b k a.low lt in
             let fits : length (get o l).queue + length (processed x o.column (reprinted x i bs ms b (k + 1))) ≤ length l =
-            part x i bs ms e h b o l (k + 1) (omega (arith, a.low)) (omega arith) le in
+            part x i bs ms h b o l (k + 1) (omega (arith, a.low)) (omega arith) le in
             runs_as x o r l n (reprinted x i bs ms b k ++ place_echo x i bs ms k) (reprinted x i bs ms b (k + 1)) (sym more)
             (runs_more x o p r l m n (reprinted x i bs ms b k) (place_echo x i bs ms k) (rw more at fits) (a.so o l b le w) s);
       }
@@ -179,12 +179,12 @@ module _ (x : Settings) (i : Input) (bs ms : List ℕ) (e : length bs ≡ length
     shown_run : Runs x o l (reprinted x i bs ms b k) p m
     shown_run =
         a.so o l b le
-        (runs_first x o p₀ l l₀ (reprinted x i bs ms b i.ready) (part x i bs ms e h b o l i.ready (omega arith) h.ready le)
-        (shows_as x o p₀ l l₀ (visible x b ++ (10 ∷ [])) (reprinted x i bs ms b i.ready) (reprinted_first x i bs ms e h b) f))
+        (runs_first x o p₀ l l₀ (reprinted x i bs ms b i.ready) (part x i bs ms h b o l i.ready (omega arith) h.within.ready le)
+        (shows_as x o p₀ l l₀ (visible x b ++ (10 ∷ [])) (reprinted x i bs ms b i.ready) (reprinted_first x i bs ms h b) f))
 
     pub shown_all : i.queue.len ≤ k → Echoes x o l (reprinted x i bs ms b i.queue.len) p m
     shown_all end =
-        runs_whole x o p l m (reprinted x i bs ms b i.queue.len) (part x i bs ms e h b o l i.queue.len h.ready (omega arith) le)
+        runs_whole x o p l m (reprinted x i bs ms b i.queue.len) (part x i bs ms h b o l i.queue.len h.within.ready (omega arith) le)
         (subst (λ (n : ℕ). Runs x o l (reprinted x i bs ms b n) p m) (le_antisymm a.high end) shown_run)
 
 ---- of_reprinted
@@ -192,7 +192,7 @@ module _ (x : Settings) (i : Input) (bs ms : List ℕ) (e : length bs ≡ length
 module _ (x : Settings) (o : Output) (i : Input) (bs ms l : List ℕ) (b : ℕ) (e : length bs ≡ length ms) (h : Within i (length ms)) where
   edit_set : x.echo ≡ true → reprinted x i bs ms b i.queue.len ≡ edit_echo x reprint b 0 (units (input i bs ms).current)
   edit_set t =
-      reprinted_all x i bs ms e h b
+      reprinted_all x i bs ms (record { same = e; within = rw e h }) b
       ∙ ap (λ (y : Bool). cond y (edit_shows x reprint b 0 (units (input i bs ms).current)) []) (sym t)
 
   edit_clear : x.echo ≡ false → [] ≡ edit_echo x reprint b 0 (units (input i bs ms).current)

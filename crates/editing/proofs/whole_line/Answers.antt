@@ -4,13 +4,13 @@ use mathlib.Core.Path.{refl}
 use Rattle.editing.proofs.Laws.{walk_next, whole_of}
 use Rattle.editing.proofs.whole_line.Goals as goal
 
-pub loop-begin-preserved : goal.loop-begin-preserved
-loop-begin-preserved c =
-    let at-loop = c.loop-begin in
-    λ bs e. walk_next c.args.i bs c.args.marks.now c.args.i.queue.len (λ u. true) e at-loop.begin at-loop.count (at-loop.invariant bs e)
-    c.unit_start-begin.result c.unit_start-begin.ensures refl
+pub loop-at-preserved : goal.loop-at-preserved
+loop-at-preserved c =
+    let at-loop = c.loop-at in
+    λ bs e. walk_next c.args.i bs c.args.marks.now c.args.i.queue.len (λ u. true) e at-loop.at at-loop.units (at-loop.invariant bs e)
+    c.unit_start-at.result c.unit_start-at.ensures refl
 
 pub returns : goal.returns
 returns c =
-    let at-loop = c.loop-begin in
-    whole_of c.args.i c.args.marks.now at-loop.begin at-loop.count c.requires c.loop-begin-test.false at-loop.invariant
+    let at-loop = c.loop-at in
+    whole_of c.args.i c.args.marks.now at-loop.at at-loop.units c.requires c.loop-at-test.false at-loop.invariant

@@ -6,8 +6,8 @@ use mathlib.Core.Path.{◌≡◌}
 use Rattle.editing.proofs.Laws.{Walked}
 use Rattle.editing.proofs.whole_line.Given as goal
 
-abbrev pub invariant-loop-begin : goal.invariant-loop-begin
-invariant-loop-begin l = (bs : List ℕ) → length bs ≡ length l.marks → Walked l.i bs l.marks l.i.queue.len (λ u. true) l.begin l.count
+abbrev pub invariant-loop-at : goal.invariant-loop-at
+invariant-loop-at l = (bs : List ℕ) → length bs ≡ length l.marks → Walked l.i bs l.marks l.i.queue.len (λ u. true) l.at l.units
 
-abbrev pub decreases-loop-begin : goal.decreases-loop-begin
-decreases-loop-begin l = l.begin
+abbrev pub decreases-loop-at : goal.decreases-loop-at
+decreases-loop-at l = l.at

@@ -16,12 +16,12 @@ use Rattle.rules.specs.declared.Class.{Class}
 use Rattle.rules.specs.contracts.Class.{the_type}
 use denote.Enum.Bare.{sameb}
 use Rattle.rules.specs.declared.Class.TheVariants.{Blank, Letter, Control, Other}
-use Rattle.input.specs.Contract.{all, get, Within}
+use Rattle.input.specs.Contract.{all, get, Within, Sound}
 use Rattle.input.specs.declared.Input.{Input}
 use Rattle.editing.specs.Contract.{places_in, units_to, Starts, Cuts, Removes}
 use Rattle.editing.specs.declared.Run.{Run}
 use Rattle.editing.specs.words.Contract.{unit_class}
-use Rattle.editing.proofs.Laws.{removes_of, place_one, within_both}
+use Rattle.editing.proofs.Laws.{removes_of, place_one, within_marks}
 use Rattle.input.proofs.Laws.{all_long}
 
 ---- The classes of units
@@ -85,12 +85,12 @@ asked_letter u k r er ek = er ∙ same k ∙ ap letter_class ek ∙ letter_unit 
     same Control = refl
     same Other = refl
 
-module _ (i : Input) (bs ms : List ℕ) (start end : ℕ) (e : length bs ≡ length ms) (h : Within i (length ms)) (le : end ≤ i.queue.len) where
+module _ (i : Input) (bs ms : List ℕ) (start end : ℕ) (h : Sound i bs ms) (le : end ≤ i.queue.len) where
   -- a unit of one byte
   pub class_single : start < end → end ≤ start + 1 → class_of (get_or (held i.queue bs) start 0) ≡ unit_class (places_in i bs ms start end)
   class_single lt one =
       let es : suc start ≡ end = omega arith in
-      sym (ap unit_class (ap (places_in i bs ms start) (sym es) ∙ place_one i bs ms e h start (omega arith)))
+      sym (ap unit_class (ap (places_in i bs ms start) (sym es) ∙ place_one i bs ms h.same (within_marks i bs ms h) start (omega arith)))
 
   -- 'a unit of several bytes is a non-blank of the second class'
   pub class_several : start + 1 < end → Other ≡ unit_class (places_in i bs ms start end)
@@ -102,7 +102,7 @@ module _ (i : Input) (bs ms : List ℕ) (start end : ℕ) (e : length bs ≡ len
           ∙ ap (λ (n : ℕ). n - start) (length-take end (all i bs ms) ∙ least)
         where
           least : min end (length (all i bs ms)) ≡ end
-          least = omega (arith, all_long i bs ms e (within_both i bs ms e h))
+          least = omega (arith, all_long i bs ms h.same h.within)
 
       no_single : (u : List Place) → 1 < length u → Other ≡ unit_class u
       no_single [] lt = absurd (omega arith)

@@ -6,7 +6,7 @@ use Rattle.trace.proofs.Laws.{malformed_carried, at_most, carried}
 use Rattle.trace.proofs.carry.Goals as goal
 
 pub returns-in_default : goal.returns-in_default
-returns-in_default c = malformed_carried c.decode.ensures c.in_default.is
+returns-in_default c = rw c.refuses.ensures (malformed_carried c.decode.ensures c.in_default.is)
 
 pub slice_bounds-step-end : goal.slice_bounds-step-end
 slice_bounds-step-end c =

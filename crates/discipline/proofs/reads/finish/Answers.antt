@@ -1,11 +1,15 @@
 -- `discipline::reads::finish` meets its contract. Assumes nothing.
 use Rattle.discipline.proofs.reads.Laws.{line_given, bytes_given}
 use Rattle.discipline.proofs.reads.finish.Goals as goal
-
-pub returns-then-p : goal.returns-then-p
-returns-then-p c =
-    line_given _ _ _ _ _ c.requires _ _ _ _ c.if-p.true c.read_line-taken.ensures c.with_read.ensures c.says.ensures
+use Rattle.discipline.proofs.reads.finish.Goals.{then-p, else-p}
 
 pub returns : goal.returns
 returns c =
-    bytes_given _ _ _ _ _ c.requires _ _ _ _ c.if-p.false c.read_bytes-taken.ensures c.with_read-2.ensures c.says-2.ensures
+    elim c.if-p.branch [
+      | then-p w ↦
+          line_given _ _ _ _ _ c.args.places.now.sound c.if-p.count _ _ _ w.if-p.true (rw (w.count-is, w.dst-is) w.read_line.ensures) c.with_read.ensures
+          c.says.ensures
+      | else-p w ↦
+          bytes_given _ _ _ _ _ c.args.places.now.sound c.if-p.count _ _ _ w.if-p.false (rw (w.count-is, w.dst-is) w.read_bytes.ensures) c.with_read.ensures
+          c.says.ensures
+    ]

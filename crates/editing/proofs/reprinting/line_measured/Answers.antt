@@ -8,43 +8,43 @@ use Prim.Native.Nat.{◌+◌}
 pub returns-in_err-measured : goal.returns-in_err-measured
 returns-in_err-measured c =
     let a = c.args in
-    let n = a.line.now in
+    let n = a.places.now in
     rw c.from_residual.ensures
-    (own_past a.x n.input n.bytes.now n.marks.now n.same_length n.within a.b _ a.o.column
+    (own_past a.x n.input n.bytes.now n.marks.now n.sound a.b _ a.o.column
     (c.in_err-measured.ensures _ a.o.column _ (c.measure.ensures a.x)))
 
 pub returns-in_err-measure : goal.returns-in_err-measure
 returns-in_err-measure c =
     let a = c.args in
-    let n = a.line.now in
+    let n = a.places.now in
     rw c.from_residual-in_err-measure.ensures
-    (measured_past a.x n.input n.bytes.now n.marks.now n.same_length n.within a.b _ a.o.column n.input.ready (omega arith)
-    n.within.ready
-    (measured_first a.x n.input n.bytes.now n.marks.now n.same_length n.within a.b _ a.o.column c.in_ok-measured.field-0 None
+    (measured_past a.x n.input n.bytes.now n.marks.now n.sound a.b _ a.o.column n.input.ready (omega arith)
+    n.sound.within.ready
+    (measured_first a.x n.input n.bytes.now n.marks.now n.sound a.b _ a.o.column c.in_ok-measured.field-0 None
     (c.in_ok-measured.ensures _ a.o.column _ (c.measure.ensures a.x)) c.in_err-measure.ensures))
 
 pub loop-k-init : goal.loop-k-init
 loop-k-init c =
     let a = c.args in
-    let n = a.line.now in
-    measured_first a.x n.input n.bytes.now n.marks.now n.same_length n.within a.b _ a.o.column c.in_ok-measured.field-0
+    let n = a.places.now in
+    measured_first a.x n.input n.bytes.now n.marks.now n.sound a.b _ a.o.column c.in_ok-measured.field-0
     (Some c.in_ok-measure.measure) (c.in_ok-measured.ensures _ a.o.column _ (c.measure.ensures a.x)) c.in_ok-measure.ensures
 
 pub returns-in_err-measure-2 : goal.returns-in_err-measure-2
 returns-in_err-measure-2 c =
     let a = c.args in
-    let n = a.line.now in
+    let n = a.places.now in
     let l = c.loop-k in
     rw c.from_residual-in_err-measure-2.ensures
-    (measured_past a.x n.input n.bytes.now n.marks.now n.same_length n.within a.b _ a.o.column (l.k + 1) (omega (arith, l.auto.k))
+    (measured_past a.x n.input n.bytes.now n.marks.now n.sound a.b _ a.o.column (l.k + 1) (omega (arith, l.auto.k))
     (omega (arith, c.loop-k-test.true))
-    (measured_next a.x n.input n.bytes.now n.marks.now n.same_length n.within a.b _ a.o.column l.k l.measure None l.auto.k
+    (measured_next a.x n.input n.bytes.now n.marks.now n.sound a.b _ a.o.column l.k l.measure None l.auto.k
     c.loop-k-test.true l.invariant c.in_err-measure-2.ensures))
 
 pub loop-k-preserved : goal.loop-k-preserved
 loop-k-preserved c =
     let a = c.args in
-    let n = a.line.now in
+    let n = a.places.now in
     let l = c.loop-k in
-    measured_next a.x n.input n.bytes.now n.marks.now n.same_length n.within a.b _ a.o.column l.k l.measure
+    measured_next a.x n.input n.bytes.now n.marks.now n.sound a.b _ a.o.column l.k l.measure
     (Some c.in_ok-measure-2.measure) l.auto.k c.loop-k-test.true l.invariant c.in_ok-measure-2.ensures

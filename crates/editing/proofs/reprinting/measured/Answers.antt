@@ -11,6 +11,6 @@ returns-then-is_shown c =
     let at-if1 = c.if-is_shown in
     let t = c.is_shown in
     let a = c.args in
-    extends_as a.x a.measure c.measured.result (visible a.x v.result) (place_echo a.x a.line.now.input a.line.now.bytes.now a.line.now.marks.now a.k)
-    (place_seen a.x a.line.now.input a.line.now.bytes.now a.line.now.marks.now a.k t.result t.ensures v.result at-if1.true v.ensures)
+    extends_as a.x a.measure c.measured.result (visible a.x v.result) (place_echo a.x a.places.now.input a.places.now.bytes.now a.places.now.marks.now a.k)
+    (place_seen a.x a.places.now.input a.places.now.bytes.now a.places.now.marks.now a.k t.result t.ensures v.result at-if1.true v.ensures)
     c.measured.ensures

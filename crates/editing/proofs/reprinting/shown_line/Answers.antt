@@ -9,14 +9,13 @@ loop-k-preserved c =
     let l = c.loop-k in
     let f = c.show_line-shows in
     let a = c.args in
-    showing_next a.x a.line.now.input a.line.now.bytes.now a.line.now.marks.now a.line.now.same_length a.line.now.within f.result f.new.out l.k l.shows
-    t.result l.out
-    t.new.out l.invariant at-loop-test.true t.ensures
+    showing_next a.x a.places.now.input a.places.now.bytes.now a.places.now.marks.now a.places.now.sound f.result f.new.out l.k l.shows
+    t.result l.out t.new.out l.invariant at-loop-test.true t.ensures
 
 pub returns : goal.returns
 returns c =
     let l = c.loop-k in
     let f = c.show_line-shows in
     let a = c.args in
-    shown_all a.x a.line.now.input a.line.now.bytes.now a.line.now.marks.now a.line.now.same_length a.line.now.within f.result f.new.out a.o a.out.now a.b
+    shown_all a.x a.places.now.input a.places.now.bytes.now a.places.now.marks.now a.places.now.sound f.result f.new.out a.o a.out.now a.b
     c.requires f.ensures l.k l.shows l.out l.invariant c.loop-k-test.false

@@ -6,6 +6,6 @@ use Rattle.editing.proofs.words.blanks.Goals as goal
 
 pub returns : goal.returns
 returns c =
-    let l = c.args.line.now in
+    let l = c.args.places.now in
     cuts_by l.input l.bytes.now l.marks.now l.input.queue.len blank_class blank c.trailing.result blank_unit
     (c.trailing.ensures blank_class (λ k r p. search (rules, tests)))

@@ -7,10 +7,10 @@ use Rattle.editing.proofs.words.trailing.Given as goal
 
 abbrev pub invariant-loop-at : goal.invariant-loop-at
 invariant-loop-at g l =
-    (l.line.input.ready ≤ l.at)
+    (l.places.input.ready ≤ l.at)
     × (l.units + l.at ≤ l.end)
     × ((t : Class → Bool) → Answers (goal.F-post g l.test) t
-    → Walked l.line.input l.line.bytes.now l.line.marks.now l.end (λ u. t (unit_class u)) l.at l.units)
+    → Walked l.places.input l.places.bytes.now l.places.marks.now l.end (λ u. t (unit_class u)) l.at l.units)
 
 abbrev pub decreases-loop-at : goal.decreases-loop-at
 decreases-loop-at g l = l.at

@@ -13,7 +13,7 @@ overflow_add-result c =
 
 pub returns : goal.returns
 returns c =
-    let l = c.args.line.now in
+    let l = c.args.places.now in
     let rest = c.trailing-rest in
     word_of l.input l.bytes.now l.marks.now l.input.queue.len c.blanks-blanks.result c.blanks-blanks.ensures rest.result
     (cuts_by l.input l.bytes.now l.marks.now c.blanks-blanks.result.at (λ k. not (blank_class k)) (λ u. not (blank u)) rest.result
