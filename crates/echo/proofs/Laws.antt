@@ -10,6 +10,7 @@ use Rattle.rules.specs.declared.Settings.{Settings}
 use Rattle.rules.specs.Sizes.{Output as Ruled}
 use Rattle.rules.specs.Output.{queued, queued_whole}
 use Rattle.rules.proofs.OutputLaws.{queued_none}
+use Rattle.echo.specs.Contract.{erased_echo}
 use Rattle.output.specs.Contract.{in_range, get, OutputBecomes, echoed, Echoes}
 use Rattle.output.specs.columns.Contract.{Measures, ExtendsBy}
 use Rattle.output.specs.declared.columns.Measure.{Measure}
@@ -33,5 +34,9 @@ shows_none x o p l e =
 pub shows_as : (x : Settings) (o r : Output) (l l' a b : List ℕ) → a ≡ b → Echoes x o l a r l' → Echoes x o l b r l'
 shows_as x o r l l' a b e s = becomes o r l l' (echoed x o l a) (echoed x o l b) (ap (echoed x o l) e) s
 
-pub extends_as : (x : Settings) (m : Measure) (r : Option Measure) (a b : List ℕ) → a ≡ b → ExtendsBy x m a r → ExtendsBy x m b r
+pub extends_as : (x : Settings) (m r : Option Measure) (a b : List ℕ) → a ≡ b → ExtendsBy x m a r → ExtendsBy x m b r
 extends_as x m r a b e s = λ room c bs h. subst (λ (l : List ℕ). Measures x room c (bs ++ l) r) e (s room c bs h)
+
+-- with ECHO clear an edit shows nothing
+pub erased_clear : (x : Settings) (b n : ℕ) → x.echo ≡ false → [] ≡ erased_echo x b n
+erased_clear x b n e = rw e

@@ -59,13 +59,13 @@ fn show_with(o: Output, x: Settings, out: &mut [u8], b: u8, line: bool) -> Outpu
     }
 }
 
-// the byte as it is visible, behind what is measured, if it fits
-pub fn measured(measure: Measure, x: Settings, b: u8) -> Option<Measure>
+// the byte as it is visible, behind what is measured, if all of it fits
+pub fn measured(measure: Option<Measure>, x: Settings, b: u8) -> Option<Measure>
     ensures { ExtendsBy x measure (echo.visible x b) result }
 {
     match visible(x, b) {
-        Seen::Itself(seen) => measure.and(x, seen),
-        Seen::Caret(seen) => measure.and_all(x, &[CARET, seen]),
+        Seen::Itself(seen) => Measure::and(measure, x, seen),
+        Seen::Caret(seen) => measure?.and_all(x, &[CARET, seen]),
     }
 }
 

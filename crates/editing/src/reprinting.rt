@@ -1,5 +1,5 @@
 // Document 01, 'Echo': 'REPRINT: its echo, 10, then each unit's echo again', whole or not at all: measured first, then shown.
-ghost use Rattle.std.specs.Prelude.{◌≡◌, ◌≤◌, length, leb};
+ghost use Rattle.std.specs.Prelude.{◌≡◌, ◌≤◌, length, leb, Some};
 ghost use Rattle.rules.specs.Editing.{units, reprint};
 ghost use Rattle.rules.specs.Echo.{edit_echo};
 ghost use Rattle.input.specs.Contract.{get, Within};
@@ -14,10 +14,10 @@ use rules::Settings;
 
 // what place k shows, behind what is measured, if it fits
 fn measured(measure: Measure, x: Settings, places: &Places, k: usize) -> Option<Measure>
-    ensures { ExtendsBy x measure (place_echo x places.now.input places.now.bytes.now places.now.marks.now k) result }
+    ensures { ExtendsBy x (Some measure) (place_echo x places.now.input places.now.bytes.now places.now.marks.now k) result }
 {
     if super::is_shown(places.input, places.marks, k) {
-        echo::measured(measure, x, places.input.queue.at(places.bytes, k))
+        echo::measured(Some(measure), x, places.input.queue.at(places.bytes, k))
     } else {
         Some(measure)
     }
@@ -27,7 +27,8 @@ fn measured(measure: Measure, x: Settings, places: &Places, k: usize) -> Option<
 fn line_measured(o: Output, x: Settings, places: &Places, size: usize, b: u8) -> Option<Measure>
     ensures { MeasuresLine x o places.now.input places.now.bytes.now places.now.marks.now size b result }
 {
-    let mut measure = echo::measured(o.measure(size), x, b)?.and(x, 10)?;
+    let own = echo::measured(Some(o.measure(size)), x, b);
+    let mut measure = Measure::and(own, x, 10)?;
     for k in places.input.ready..places.input.queue.len {
         measure = measured(measure, x, places, k)?;
     }

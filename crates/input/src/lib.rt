@@ -85,7 +85,7 @@ impl Input {
         let queue = self.queue.fit(n);
         Input {
             queue,
-            ready: self.ready.min(queue.len),
+            ready: queue::least(self.ready, queue.len),
             ..self
         }
     }
@@ -111,7 +111,7 @@ impl Input {
         requires { Within self n }
         ensures { result ≡ shortened at self }
     {
-        let gone = self.queue.len.saturating_sub(at);
+        let gone = queue::less(self.queue.len, at);
         Input {
             queue: self.queue.drop_newest(n, gone),
             ..self

@@ -1,5 +1,5 @@
 // Document 01, 'Output': the column behind a byte, and a run of bytes that is measured before it is queued.
-ghost use Rattle.std.specs.Prelude.{◌≡◌, replicate};
+ghost use Rattle.std.specs.Prelude.{◌≡◌, replicate, Some};
 ghost use Rattle.rules.specs.Output.{capped, moved, column_after, columns_after};
 ghost use Rattle.output.specs.columns.Contract.{Extends, ExtendsBy};
 ghost use Rattle.output.specs.expansion.Contract.{expanded_bytes};
@@ -73,25 +73,26 @@ pub struct Measure {
 }
 
 impl Measure {
-    // with the byte b behind the others, if it fits
-    pub fn and(self, x: Settings, b: u8) -> Option<Measure>
-        ensures { Extends x self b result }
+    // with the byte b behind what is measured, if all of it fits
+    pub fn and(measure: Option<Measure>, x: Settings, b: u8) -> Option<Measure>
+        ensures { Extends x measure b result }
     {
-        let expanded = expansion::expand(x, self.column, b);
-        let room = self.room.checked_sub(expansion::width(expanded))?;
+        let before = measure?;
+        let expanded = expansion::expand(x, before.column, b);
+        let room = before.room.checked_sub(expansion::width(expanded))?;
         Some(Measure {
             room,
-            column: column_after(x, self.column, expanded),
+            column: column_after(x, before.column, expanded),
         })
     }
 
     // with all of bytes behind the others, if they fit
     pub fn and_all(self, x: Settings, bytes: &[u8]) -> Option<Measure>
-        ensures { ExtendsBy x self bytes.now result }
+        ensures { ExtendsBy x (Some self) bytes.now result }
     {
         let mut measure = self;
         for b in bytes {
-            measure = measure.and(x, *b)?;
+            measure = Measure::and(Some(measure), x, *b)?;
         }
         Some(measure)
     }

@@ -60,7 +60,7 @@ impl Queue {
     {
         Queue {
             head: home(self.head, n),
-            len: self.len.min(n),
+            len: least(self.len, n),
         }
     }
 
@@ -100,7 +100,7 @@ impl Queue {
     {
         let q = self.fit(n);
         Queue {
-            len: q.len.saturating_sub(k),
+            len: less(q.len, k),
             ..q
         }
     }

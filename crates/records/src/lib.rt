@@ -14,6 +14,9 @@ use rules::{Call, Event};
 // '15 values'
 pub const VALUES: usize = 15;
 
+// '1 settings (4 flag bytes, 15 values)'
+pub const SETTINGS: usize = 4 + VALUES;
+
 // '8 read (2-byte count to 1,024'
 pub const MOST_READ: usize = 1024;
 

@@ -1,16 +1,24 @@
 // Document 01, 'The trace program': the bytes of a record, kept as they come until it is complete.
-ghost use Rattle.std.specs.Prelude.{◌≡◌, true, cond, ◌<◌, set};
-ghost use Rattle.trace.specs.gathering.Contract.{is_open, kind_of, end_of, Gathers};
+ghost use Rattle.std.specs.Prelude.{◌≡◌, true, cond, ◌<◌, ◌≤◌, set};
+ghost use Rattle.trace.specs.gathering.Contract.{size_of, is_open, kind_of, end_of, Gathers};
 ghost use Rattle.trace.specs.Numbers.{most_size};
 
 use super::stream::Stream;
+
+// how many bytes the record has, header and body
+fn size(kept: &[u8; Stream::KEPT]) -> usize
+    ensures value { result ≡ size_of kept.now }
+    ensures upper_bound { result ≤ most_size }
+{
+    Stream::HEADER + records::two(kept[0], kept[1])
+}
 
 // Is a record of which so many bytes have come not yet complete?
 pub(crate) fn is_open(kept: &[u8; Stream::KEPT], have: usize) -> bool
     ensures value { result ≡ is_open kept.now have }
     ensures have_lt_most_size { result ≡ true → have < most_size }
 {
-    have < Stream::HEADER + records::two(kept[0], kept[1])
+    have < size(kept)
 }
 
 // how many bytes of an incomplete record have come
@@ -39,6 +47,9 @@ pub(crate) fn gather(kept: &mut [u8; Stream::KEPT], have: usize, piece: &[u8]) -
     for (at, &b) in piece.iter().enumerate() {
         if !is_open(kept, have + at) {
             return at;
+        }
+        if have + at >= Stream::KEPT { // no byte from here on has a place
+            return piece.len().min(size(kept) - have);
         }
         keep(kept, have + at, b);
     }

@@ -124,7 +124,7 @@ module _ (x : Settings) (i : Input) (bs ms : List ℕ) (h : Sound i bs ms) (b : 
 module _ (x : Settings) (i : Input) (bs ms : List ℕ) (h : Sound i bs ms) (b room c : ℕ) where
   -- one place more
   pub measured_next : (k : ℕ) (m : Measure) (r : Option Measure) → i.ready ≤ k → k < i.queue.len → Behind x room c (reprinted x i bs ms b k) m
-      → ExtendsBy x m (place_echo x i bs ms k) r → Measures x room c (reprinted x i bs ms b (k + 1)) r
+      → ExtendsBy x (Some m) (place_echo x i bs ms k) r → Measures x room c (reprinted x i bs ms b (k + 1)) r
   measured_next k m r le lt w s =
       subst (λ (l : List ℕ). Measures x room c l r) (sym (reprinted_next x i bs ms h b k le lt)) (s room c (reprinted x i bs ms b k) w)
 
@@ -134,14 +134,9 @@ module _ (x : Settings) (i : Input) (bs ms : List ℕ) (h : Sound i bs ms) (b ro
   measured_past k lo hi lt = omega (arith, part_from x i bs ms h b c (i.queue.len - k) k (omega arith) lo)
 
   -- before the line's first place
-  pub measured_first : (own : Measure) (r : Option Measure) → Behind x room c (visible x b) own → Extends x own 10 r
+  pub measured_first : (own r : Option Measure) → Measures x room c (visible x b) own → Extends x own 10 r
       → Measures x room c (reprinted x i bs ms b i.ready) r
   measured_first own r w s = subst (λ (l : List ℕ). Measures x room c l r) (reprinted_first x i bs ms h b) (s room c (visible x b) w)
-
-  pub own_past : Measures x room c (visible x b) None → Measures x room c (reprinted x i bs ms b i.queue.len) None
-  own_past lt =
-      let line = ap (λ (l : List ℕ). length (processed x c l)) (reprinted_first x i bs ms h b) in
-      measured_past i.ready (omega arith) h.within.ready (omega (arith, processed_part x c (visible x b) (10 ∷ [])))
 
 -- what is measured in the room that is left, fits
 pub fits_if : (x : Settings) (i : Input) (bs ms : List ℕ) (o : Output) (size b : ℕ) (r : Option Measure)

@@ -32,23 +32,27 @@ module _ (x : Settings) (m : Measure) (b : ℕ) (e : List ℕ) (ee : e ≡ expan
   longer_columns = ap (columns_after x c) longer ∙ columns_append x c (processed x c bs) e ∙ ap (λ (k : ℕ). columns_after x k e) (sym h.column)
 
 module _ (x : Settings) (m : Measure) (b w : ℕ) (e : List ℕ) (ee : e ≡ expand x m.column b) (ew : w ≡ length e) where
-  pub measured_full : (w ≤ m.room → ⊥) → Extends x m b None
+  pub measured_full : (w ≤ m.room → ⊥) → Extends x (Some m) b None
   measured_full lt room c bs h = omega (arith, h.left, longer_length x m b e ee room c bs h)
 
-  pub measured_fits : (k d : ℕ) → w ≤ m.room → k ≡ m.room - w → d ≡ columns_after x m.column e → Extends x m b (Some (record { room = k; column = d }))
+  pub measured_fits : (k d : ℕ) → w ≤ m.room → k ≡ m.room - w → d ≡ columns_after x m.column e → Extends x (Some m) b (Some (record { room = k; column = d }))
   measured_fits k d le ek ed room c bs h =
       record { left = omega (arith, h.left, longer_length x m b e ee room c bs h); column = ed ∙ sym (longer_columns x m b e ee room c bs h) }
 
----- A run of bytes behind it, i of them so far
+---- More bytes behind it, i of them so far
 
-pub extends_next : (x : Settings) (m k : Measure) (r : Option Measure) (bs : List ℕ) (i : ℕ) → i < length bs → ExtendsBy x m (take i bs) (Some k)
+-- a run that does not fit, does not fit with more behind it
+pub unfit_longer : (x : Settings) (e : List ℕ) → ExtendsBy x None e None
+unfit_longer x e room c bs lt = omega (arith, processed_part x c bs e)
+
+pub extends_next : (x : Settings) (m k r : Option Measure) (bs : List ℕ) (i : ℕ) → i < length bs → ExtendsBy x m (take i bs) k
     → Extends x k (get_or bs i 0) r → ExtendsBy x m (take (i + 1) bs) r
 extends_next x m k r bs i lt s t room c ys h =
     rw (take_more bs i 0 lt)
     (subst (λ (l : List ℕ). Measures x room c l r) (append_assoc ys (take i bs) (get_or bs i 0 ∷ [])) (t room c (ys ++ take i bs) (s room c ys h)))
 
 -- what does not fit, does not fit with more behind it
-pub extends_past : (x : Settings) (m : Measure) (bs : List ℕ) (i : ℕ) → ExtendsBy x m (take i bs) None → ExtendsBy x m bs None
+pub extends_past : (x : Settings) (m : Option Measure) (bs : List ℕ) (i : ℕ) → ExtendsBy x m (take i bs) None → ExtendsBy x m bs None
 extends_past x m bs i s room c ys h =
     omega (
       arith,

@@ -14,9 +14,9 @@ abbrev pub Measures : Settings → ℕ → ℕ → List ℕ → Option Measure �
 Measures x room c bs (Some m) = Behind x room c bs m
 Measures x room c bs None = room < length (processed x c bs)
 
--- the bytes e behind a run that is measured; one byte behind it
-abbrev pub ExtendsBy : Settings → Measure → List ℕ → Option Measure → Type 0
-ExtendsBy x m e r = (room c : ℕ) (bs : List ℕ) → Behind x room c bs m → Measures x room c (bs ++ e) r
+-- the bytes e behind a run that is measured, whether it fits or not; one byte behind it
+abbrev pub ExtendsBy : Settings → Option Measure → List ℕ → Option Measure → Type 0
+ExtendsBy x m e r = (room c : ℕ) (bs : List ℕ) → Measures x room c bs m → Measures x room c (bs ++ e) r
 
-abbrev pub Extends : Settings → Measure → ℕ → Option Measure → Type 0
+abbrev pub Extends : Settings → Option Measure → ℕ → Option Measure → Type 0
 Extends x m b r = ExtendsBy x m (b ∷ []) r

@@ -1,34 +1,26 @@
 -- `editing::reprinting::line_measured` meets its contract. Assumes nothing.
 use Rattle.std.specs.Prelude.{Some, None}
-use Rattle.editing.proofs.reprinting.Laws.{measured_first, measured_next, measured_past, own_past}
+use Rattle.editing.proofs.reprinting.Laws.{measured_first, measured_next, measured_past}
 use Rattle.editing.proofs.reprinting.line_measured.Goals as goal
 use native.Mathlib.Omega.{arith}
 use Prim.Native.Nat.{◌+◌}
-
-pub returns-in_err-measured : goal.returns-in_err-measured
-returns-in_err-measured c =
-    let a = c.args in
-    let n = a.places.now in
-    rw c.from_residual.ensures
-    (own_past a.x n.input n.bytes.now n.marks.now n.sound a.b _ a.o.column
-    (c.in_err-measured.ensures _ a.o.column _ (c.measure.ensures a.x)))
 
 pub returns-in_err-measure : goal.returns-in_err-measure
 returns-in_err-measure c =
     let a = c.args in
     let n = a.places.now in
-    rw c.from_residual-in_err-measure.ensures
+    rw c.from_residual.ensures
     (measured_past a.x n.input n.bytes.now n.marks.now n.sound a.b _ a.o.column n.input.ready (omega arith)
     n.sound.within.ready
-    (measured_first a.x n.input n.bytes.now n.marks.now n.sound a.b _ a.o.column c.in_ok-measured.field-0 None
-    (c.in_ok-measured.ensures _ a.o.column _ (c.measure.ensures a.x)) c.in_err-measure.ensures))
+    (measured_first a.x n.input n.bytes.now n.marks.now n.sound a.b _ a.o.column c.measured-own.result None
+    (c.measured-own.ensures _ a.o.column _ (c.measure.ensures a.x)) c.in_err-measure.ensures))
 
 pub loop-k-init : goal.loop-k-init
 loop-k-init c =
     let a = c.args in
     let n = a.places.now in
-    measured_first a.x n.input n.bytes.now n.marks.now n.sound a.b _ a.o.column c.in_ok-measured.field-0
-    (Some c.in_ok-measure.measure) (c.in_ok-measured.ensures _ a.o.column _ (c.measure.ensures a.x)) c.in_ok-measure.ensures
+    measured_first a.x n.input n.bytes.now n.marks.now n.sound a.b _ a.o.column c.measured-own.result
+    (Some c.in_ok-measure.measure) (c.measured-own.ensures _ a.o.column _ (c.measure.ensures a.x)) c.in_ok-measure.ensures
 
 pub returns-in_err-measure-2 : goal.returns-in_err-measure-2
 returns-in_err-measure-2 c =

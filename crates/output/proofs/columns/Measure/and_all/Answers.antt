@@ -10,12 +10,12 @@ returns-in_err-measure c =
     let i = c.loop-b.b-index in
     let a = c.args in
     rw c.from_residual.ensures
-    (extends_past a.x a.self a.bytes.now (i + 1)
-    (extends_next a.x a.self c.loop-b.measure None a.bytes.now i c.loop-b-test.true c.loop-b.invariant c.in_err-measure.ensures))
+    (extends_past a.x (Some a.self) a.bytes.now (i + 1)
+    (extends_next a.x (Some a.self) (Some c.loop-b.measure) None a.bytes.now i c.loop-b-test.true c.loop-b.invariant c.in_err-measure.ensures))
 
 pub loop-b-preserved : goal.loop-b-preserved
 loop-b-preserved c =
-    extends_next c.args.x c.args.self c.loop-b.measure (Some c.in_ok-measure.measure) c.args.bytes.now c.loop-b.b-index c.loop-b-test.true
+    extends_next c.args.x (Some c.args.self) (Some c.loop-b.measure) (Some c.in_ok-measure.measure) c.args.bytes.now c.loop-b.b-index c.loop-b-test.true
     c.loop-b.invariant c.in_ok-measure.ensures
 
 pub returns : goal.returns
