@@ -123,21 +123,20 @@ module _ (i : Input) (bs ms : List ℕ) (e : length bs ≡ length ms) (h : Withi
 
 ---- unit_start
 
--- the walk back from `end`, at `at`: no place from there on begins a unit
-pub record Seeking (i : Input) (ms : List ℕ) (end at : ℕ) : Type 0 where
-  pub low : i.ready < at
+-- the walk back from `end` to `last`, at `at`: no place from there on begins a unit
+pub record Seeking (i : Input) (ms : List ℕ) (end last at : ℕ) : Type 0 where
+  pub low : last ≤ at
   pub high : at ≤ end
   pub none : (k : ℕ) → at ≤ k → k < end → eqb (get_or (held i.queue ms) k 0 % 2) 1 ≡ false
 
-pub seek_end : (i : Input) (ms : List ℕ) (end at now : ℕ) → Line i ms end → Seeking i ms end now → at + 1 ≡ now
+pub seek_end : (i : Input) (ms : List ℕ) (end last at now : ℕ) → Line i ms end → Seeking i ms end last now → i.ready ≤ at → at < end → now ≤ at + 1
     → (eqb (get_or (held i.queue ms) at 0 % 2) 1 ≡ true) ⊎ (at ≡ i.ready) → Starts i ms end at
-seek_end i ms end at now l s en begins =
-    let n : ℕ = end - now in
-    let long : suc (at + n) ≡ end = omega (arith, s.high) in
-    let low : i.ready ≤ at = omega (arith, s.low) in
+seek_end i ms end last at now l s low high le begins =
+    let n : ℕ = end - suc at in
+    let long : suc (at + n) ≡ end = omega arith in
     record {
       low = low;
-      high = omega (arith, s.high);
+      high = high;
       unit = λ bs e. rw long at (unit_run i bs ms e l.within n at low (omega (arith, l.high)) begins (λ k lo hi. s.none k (omega arith) (omega arith)));
     }
 

@@ -26,7 +26,8 @@ pub(crate) fn unit_start(i: Input, marks: &[u8], end: usize) -> usize
     requires ready_lt_end { i.ready < end }
     ensures { Starts i marks.now end result }
 {
-    for at in (i.ready + 1..end).rev() {
+    let second = i.ready + 1; // the first place of the line begins a unit in any case
+    for at in (second..end).rev() {
         if input::starts(i.queue.at(marks, at)) {
             return at;
         }

@@ -5,13 +5,14 @@ use Prim.Native.Nat.{ℕ}
 use Rattle.rules.specs.declared.Event.{Event}
 use Rattle.rules.specs.declared.Outcome.{Outcome}
 use Rattle.rules.specs.declared.Outcome.TheVariants.{Ok}
+use Rattle.rules.specs.declared.Signal.TheVariants.{Int}
 use Rattle.rules.specs.Sizes.{Sizes, State, with_waiting}
 use Rattle.rules.specs.Flushing as flushing
 use Rattle.rules.specs.Received as steps
 use Rattle.port.specs.declared.Port.{Port}
 use Rattle.port.specs.Layers.{state, Ready, Becomes, Turns, assembled}
 use Rattle.port.proofs.Layers.{as_assembled, input_stays, output_stays}
-use Rattle.received.specs.Contract.{Answers, hung_up}
+use Rattle.received.specs.Contract.{Answers, Announces, hung_up}
 use Rattle.received.specs.declared.Reported.{Reported}
 use Rattle.received.specs.arrival.Arrival.{arrival_of, carried}
 use Rattle.received.specs.declared.arrival.Arrival.{Arrival}
@@ -30,6 +31,12 @@ pub reports_of_lem : (p q : Port) (bs ms os bs' ms' os' : List ℕ) (w : State) 
     → Becomes p bs ms os w q bs' ms' os' → Answers p bs ms os (w, o) r bs' ms' os'
 reports_of_lem p q bs ms os bs' ms' os' w o r er b =
     subst (λ (y : Reported). Answers p bs ms os (w, o) y bs' ms' os') (sym er) (record { port = b; outcome = refl })
+
+-- both queues are flushed, and INT goes to the foreground group
+pub interrupted : (p q : Port) (n : ℕ) (os : List ℕ) (r : Reported) → Turns p n os (λ z s. flushing.flush_both s) q os
+    → r ≡ record { port = q; outcome = steps.reported Int p.foreground }
+    → Announces p n os (λ s. (flushing.flush_both s, steps.reported Int s.foreground)) r
+interrupted p q n os r b er bs ms eb em = reports_of_lem _ _ _ _ _ _ _ _ _ _ _ er (b bs ms eb em)
 
 -- a hangup
 pub hung_up_lem : (p q t : Port) (n : ℕ) (os : List ℕ) → Turns p n os (λ z s. flushing.flush_both s) q os → t ≡ hung_up q

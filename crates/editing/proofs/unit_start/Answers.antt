@@ -9,8 +9,9 @@ use Rattle.editing.proofs.unit_start.Goals as goal
 pub returns-then-starts : goal.returns-then-starts
 returns-then-starts c =
     let at = c.loop-at.at in
-    seek_end c.args.i c.args.marks.now c.args.end (at - 1) at c.requires.line c.loop-at.invariant (omega arith) (inl (cc))
+    seek_end c.args.i c.args.marks.now c.args.end _ (at - 1) at c.requires.line c.loop-at.invariant (omega arith) (omega arith) (omega arith) (inl (cc))
 
 pub returns : goal.returns
 returns c =
-    seek_end c.args.i c.args.marks.now c.args.end c.args.i.ready c.loop-at.at c.requires.line c.loop-at.invariant (omega arith) (inr refl)
+    let ready = c.args.i.ready in
+    seek_end c.args.i c.args.marks.now c.args.end _ ready c.loop-at.at c.requires.line c.loop-at.invariant (omega arith) (omega arith) (omega arith) (inr refl)

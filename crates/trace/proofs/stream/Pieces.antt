@@ -65,6 +65,11 @@ pub record Passing (stream : Stream) (bs ms os kept piece rest : List ℕ) (r : 
   pub text : List ℕ
   pub along : (after : List ℕ) → future stream bs ms os kept (piece ++ after) ≡ text ++ future r bs' ms' os' kept' (rest ++ after)
 
+-- nothing is fed of it yet
+pub passing_begins : {stream : Stream} {bs ms os kept piece rest : List ℕ} → rest ≡ piece → Passing stream bs ms os kept piece rest stream bs ms os kept
+passing_begins {stream} {bs} {ms} {os} {kept} e =
+    record { text = []; along = λ after. ap (λ (y : List ℕ). future stream bs ms os kept (y ++ after)) (sym e) }
+
 module _ {stream : Stream} {bs ms os kept piece rest : List ℕ} {s : Stream} {bs₁ ms₁ os₁ kept₁ : List ℕ}
     (h : Passing stream bs ms os kept piece rest s bs₁ ms₁ os₁ kept₁) where
   -- some of the rest is used

@@ -104,14 +104,14 @@ pub record Running (input d₀ bs ms os kept dst : List ℕ) (s : Stream) (rest 
   pub marks : length ms ≡ 1024
   pub out : length os ≡ 2048
 
-pub running_begins : {input d₀ bs ms os kept : List ℕ} {s : Stream} → s ≡ beginning → length bs ≡ 1024 → length ms ≡ 1024 → length os ≡ 2048
-    → Running input d₀ bs ms os kept d₀ s input 0
-running_begins {input} {d₀} {bs} {ms} {os} {kept} e eb em eo =
+pub running_begins : {input d₀ bs ms os kept rest : List ℕ} {s : Stream} → rest ≡ input → s ≡ beginning → length bs ≡ 1024 → length ms ≡ 1024
+    → length os ≡ 2048 → Running input d₀ bs ms os kept d₀ s rest 0
+running_begins {input} {d₀} {bs} {ms} {os} {kept} {rest} er e eb em eo =
     record {
       text = [];
       buffer = sym (ap (λ (y : List ℕ). y ++ d₀) (take-nil (length d₀)));
       written = omega arith;
-      ahead = sym (ap (λ (y : Stream). future y bs ms os kept input) e ∙ future_begins bs ms os kept input eb em eo);
+      ahead = sym (ap (λ (y : Stream). future y bs ms os kept rest) e ∙ future_begins bs ms os kept rest eb em eo ∙ ap trace er);
       bytes = eb;
       marks = em;
       out = eo;

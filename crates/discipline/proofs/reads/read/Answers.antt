@@ -4,4 +4,4 @@ use Rattle.discipline.proofs.reads.Laws.{read_of}
 use Rattle.discipline.proofs.reads.read.Goals as goal
 
 pub returns : goal.returns
-returns c = read_of c.args.p c.args.bytes.now c.args.marks.now _ _ _ _ _ _ (omega arith) c.fit.ensures c.ordered.ensures
+returns c = read_of c.args.p c.args.bytes.now c.args.marks.now _ _ _ _ _ _ (omega arith) (grind arith) c.ordered.ensures

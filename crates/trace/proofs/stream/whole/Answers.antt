@@ -1,11 +1,16 @@
 -- `trace::stream::whole` meets its contract. Assumes nothing.
 use Rattle.trace.proofs.stream.WholeInput.{running_begins, running_next, running_done}
-use mathlib.Core.Path.{refl, sym, ◌∙◌}
-use borrow.Author.Tests.{eqb-true}
+use mathlib.Core.Path.{◌≡◌, refl}
+use native.Mathlib.Omega.{arith}
+use borrow.Author.Rules.{rules}
+use lib.ListN.{length}
+use lib.Seq.{take_all}
 use Rattle.trace.proofs.stream.whole.Goals as goal
 
 pub loop-rest-init : goal.loop-rest-init
-loop-rest-init c = running_begins c.start-stream.ensures refl refl refl
+loop-rest-init c =
+    let all = take_all (length c.args.input.now) c.args.input.now (omega arith) in
+    running_begins (grind arith) c.start-stream.ensures refl refl refl
 
 pub loop-rest-preserved : goal.loop-rest-preserved
 loop-rest-preserved c =
@@ -14,5 +19,5 @@ loop-rest-preserved c =
 
 pub returns : goal.returns
 returns c =
-    running_done c.loop-rest.invariant c.finish.ensures.kept_len (eqb-true _ 0 (sym c.is_empty.ensures ∙ c.loop-rest-test.false))
-    c.finish.ensures.prints
+    let none : length c.loop-rest.rest.now ≡ 0 = grind arith in
+    search (rules, running_done c.loop-rest.invariant)
