@@ -30,6 +30,7 @@ use Rattle.editing.proofs.Laws.{units_none, units_whole, within_marks}
 use Rattle.editing.proofs.Shown.{echo_next}
 use Rattle.editing.specs.reprinting.Contract.{place_echo, reprinted, needed}
 use Rattle.output.proofs.Run.{got_column}
+use Rattle.output.proofs.columns.Columns.{unfit_longer}
 
 ---- One place
 
@@ -137,6 +138,10 @@ module _ (x : Settings) (i : Input) (bs ms : List ℕ) (h : Sound i bs ms) (b ro
   pub measured_first : (own r : Option Measure) → Measures x room c (visible x b) own → Extends x own 10 r
       → Measures x room c (reprinted x i bs ms b i.ready) r
   measured_first own r w s = subst (λ (l : List ℕ). Measures x room c l r) (reprinted_first x i bs ms h b) (s room c (visible x b) w)
+
+  -- where what REPRINT itself shows does not fit, the line behind it does not fit
+  pub own_past : Measures x room c (visible x b) None → Measures x room c (reprinted x i bs ms b i.queue.len) None
+  own_past lt = measured_past i.ready (omega arith) h.within.ready (measured_first None None lt (unfit_longer x (10 ∷ [])))
 
 -- what is measured in the room that is left, fits
 pub fits_if : (x : Settings) (i : Input) (bs ms : List ℕ) (o : Output) (size b : ℕ) (r : Option Measure)
